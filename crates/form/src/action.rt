@@ -1,0 +1,53 @@
+ghost use mathlib.Core.Path.{_≡_};
+ghost use Rattle.form.specs.Actions.{action-code, action-coded};
+
+/// What an argument does where it is met on a command line.
+#[derive(Clone, Copy, PartialEq, Eq, Debug)]
+pub enum ArgAction {
+    Set,
+    Append,
+    SetTrue,
+    SetFalse,
+    Count,
+    Help,
+    HelpShort,
+    HelpLong,
+    Version,
+}
+
+impl ArgAction {
+    /// The code, counting from 0 in the order above.
+    pub fn code(self) -> u8
+        ensures { λ r. ⌜ r ≡ action-code self ⌝ }
+    {
+        match self {
+            ArgAction::Set => 0,
+            ArgAction::Append => 1,
+            ArgAction::SetTrue => 2,
+            ArgAction::SetFalse => 3,
+            ArgAction::Count => 4,
+            ArgAction::Help => 5,
+            ArgAction::HelpShort => 6,
+            ArgAction::HelpLong => 7,
+            ArgAction::Version => 8,
+        }
+    }
+
+    /// The action of a code, if there is one.
+    pub fn from_code(code: u8) -> Option<ArgAction>
+        ensures { λ r. ⌜ r ≡ action-coded code ⌝ }
+    {
+        match code {
+            0 => Some(ArgAction::Set),
+            1 => Some(ArgAction::Append),
+            2 => Some(ArgAction::SetTrue),
+            3 => Some(ArgAction::SetFalse),
+            4 => Some(ArgAction::Count),
+            5 => Some(ArgAction::Help),
+            6 => Some(ArgAction::HelpShort),
+            7 => Some(ArgAction::HelpLong),
+            8 => Some(ArgAction::Version),
+            _ => None,
+        }
+    }
+}
