@@ -6,7 +6,7 @@ use lib.Dec.{eqb}
 use lib.ListN.{getD}
 use Rattle.std.specs.declared.option.Option.{Option}
 use Rattle.std.specs.declared.option.Option.the-variants.{Some, None}
-use Rattle.form.specs.Model.{Name, Form, blank-arg, blank-group, blank-subcommand}
+use Rattle.form.specs.Model.{Name, Arg, Form, blank-arg, blank-group, blank-subcommand}
 use Rattle.form.specs.declared.lists.EntryKind.{EntryKind}
 use Rattle.form.specs.declared.lists.EntryKind.the-variants.{Argument, Group, Subcommand}
 use Rattle.form.specs.declared.lists.ItemSort.{ItemSort}
@@ -86,6 +86,24 @@ list-sort GroupConflicts = sort.Name
 list-sort SubcommandAliases = sort.Name
 list-sort LongFlagAliases = sort.Name
 list-sort LetterFlagAliases = sort.Letter
+
+-- the names in a list of an argument; none in a list that is not its or holds letters
+abbrev pub arg-names : Arg → ItemList → List Name
+arg-names a Requires = a .requires
+arg-names a RIfs = a .r-ifs
+arg-names a RIfsAll = a .r-ifs-all
+arg-names a RUnless = a .r-unless
+arg-names a RUnlessAll = a .r-unless-all
+arg-names a Conflicts = a .conflicts
+arg-names a Overrides = a .overrides
+arg-names a LongAliases = a .long-aliases
+arg-names a LetterAliases = []
+arg-names a Members = []
+arg-names a GroupRequires = []
+arg-names a GroupConflicts = []
+arg-names a SubcommandAliases = []
+arg-names a LongFlagAliases = []
+arg-names a LetterFlagAliases = []
 
 -- the names in the list of the entry at the place; none where the list holds letters
 abbrev pub names-at : Form → ItemList → ℕ → List Name

@@ -5,7 +5,9 @@ mod settings;
 
 pub use action::ArgAction;
 pub use lists::EntryKind;
+pub use lists::EntryKindPartialEq;
 pub use lists::ItemList;
+pub use lists::ItemListPartialEq;
 pub use lists::ItemSort;
 pub use settings::AppSettings;
 pub use settings::ArgSettings;

@@ -1,0 +1,7 @@
+//! What a breach is: the rules, what each tells, the order of a report, and the theorems about them.
+mod breach;
+mod rule;
+
+pub use breach::Breach;
+pub use breach::Entry;
+pub use rule::Rule;
