@@ -5,6 +5,7 @@ use lib.Dec.{eqb}
 use Rattle.std.specs.declared.option.Option.{Option}
 use Rattle.std.specs.declared.option.Option.the-variants.{Some, None}
 use Rattle.form.specs.Model.{Range}
+use Rattle.form.specs.Ranges.{unbounded}
 use Rattle.form.specs.declared.action.ArgAction.{ArgAction}
 use Rattle.form.specs.declared.action.ArgAction.the-variants.{Set, Append, SetTrue, SetFalse, Count, Help, HelpShort, HelpLong, Version}
 
@@ -32,10 +33,6 @@ action-coded n =
     (cond (eqb n 6) (Some HelpShort)
     (cond (eqb n 7) (Some HelpLong)
     (cond (eqb n 8) (Some Version) None))))))))
-
--- the most of a range with no upper end
-abbrev pub unbounded : ℕ
-unbounded = 18446744073709551615
 
 -- the range of numbers of values that an action allows at the widest
 abbrev pub allowed : ArgAction → Range

@@ -1,5 +1,12 @@
+pub mod Refusals
+pub mod Names
+pub mod NameBytes
+pub mod Model
+pub mod Ranges
+pub mod Bounds
 pub mod Actions
 pub mod Settings
 pub mod Lists
-pub mod Model
 pub mod Keys
+pub mod Shown
+pub mod Limits

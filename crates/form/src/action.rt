@@ -1,8 +1,10 @@
 ghost use mathlib.Core.Path.{_≡_};
-ghost use Rattle.form.specs.Actions.{action-code, action-coded};
+ghost use Rattle.form.specs.Actions.{action-code, action-coded, allowed, default-range};
+ghost use Rattle.form.specs.Bounds.{bounds};
+use super::range::ValueRange;
 
 /// What an argument does where it is met on a command line.
-#[derive(Clone, Copy, PartialEq, Eq, Debug)]
+#[derive(Clone, Copy, PartialEq, Eq)]
 pub enum ArgAction {
     Set,
     Append,
@@ -48,6 +50,27 @@ impl ArgAction {
             7 => Some(ArgAction::HelpLong),
             8 => Some(ArgAction::Version),
             _ => None,
+        }
+    }
+
+    /// The numbers of values that the action allows at the widest.
+    pub fn max_num_args(self) -> ValueRange
+        ensures { λ r. ⌜ bounds r ≡ allowed self ⌝ }
+    {
+        match self {
+            ArgAction::Set | ArgAction::Append => ValueRange::FULL,
+            ArgAction::SetTrue | ArgAction::SetFalse => ValueRange::OPTIONAL,
+            _ => ValueRange::EMPTY,
+        }
+    }
+
+    /// The range that the action has by default.
+    pub fn default_num_args(self) -> ValueRange
+        ensures { λ r. ⌜ bounds r ≡ default-range self ⌝ }
+    {
+        match self {
+            ArgAction::Set | ArgAction::Append => ValueRange::SINGLE,
+            _ => ValueRange::EMPTY,
         }
     }
 }

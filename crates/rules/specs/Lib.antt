@@ -6,3 +6,4 @@ pub mod Breaks
 pub mod Rank
 pub mod Rows
 pub mod Report
+pub mod Tidy
