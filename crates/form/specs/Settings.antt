@@ -2,10 +2,10 @@
 use mathlib.Core.Bool.{Bool}
 use Prim.Native.Nat.{ℕ, _/_, _%_, _^_}
 use lib.Dec.{eqb}
-use Rattle.form.specs.declared.settings.ArgSettings.{ArgSettings}
-use Rattle.form.specs.declared.settings.ArgSettings.the-variants.{Required, Global, Hidden, NextLineHelp, HidePossibleValues, AllowHyphenValues, AllowNegativeNumbers, RequireEquals, Last, TrailingVarArg, HideDefaultValue, IgnoreCase}
-use Rattle.form.specs.declared.settings.AppSettings.{AppSettings}
-use Rattle.form.specs.declared.settings.AppSettings.the-variants.{Multicall, NoBinaryName, PropagateVersion, SubcommandsNegateReqs, DisableHelpFlag, DisableVersionFlag, HasVersion}
+use Rattle.form.specs.declared.arg_settings.ArgSettings.{ArgSettings}
+use Rattle.form.specs.declared.arg_settings.ArgSettings.the-variants.{Required, Global, Hidden, NextLineHelp, HidePossibleValues, AllowHyphenValues, AllowNegativeNumbers, RequireEquals, Last, TrailingVarArg, HideDefaultValue, IgnoreCase}
+use Rattle.form.specs.declared.app_settings.AppSettings.{AppSettings}
+use Rattle.form.specs.declared.app_settings.AppSettings.the-variants.{Multicall, NoBinaryName, PropagateVersion, SubcommandsNegateReqs, DisableHelpFlag, DisableVersionFlag, HasVersion}
 
 -- whether bit k of the number is 1
 abbrev pub bit : ℕ → ℕ → Bool

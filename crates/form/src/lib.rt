@@ -1,12 +1,13 @@
 //! The vocabulary of an order form: the small types that every other crate speaks in.
 mod action;
+mod app_settings;
+mod arg_settings;
 mod lists;
 mod name;
 mod names;
 mod range;
 mod ranges;
 mod refusal;
-mod settings;
 mod source;
 mod views;
 
@@ -34,10 +35,10 @@ pub use refusal::Refusal;
 pub use refusal::RefusalFromLetter;
 pub use refusal::RefusalFromName;
 pub use refusal::RefusalFromRange;
-pub use settings::AppFlags;
-pub use settings::AppSettings;
-pub use settings::ArgFlags;
-pub use settings::ArgSettings;
+pub use app_settings::AppFlags;
+pub use app_settings::AppSettings;
+pub use arg_settings::ArgFlags;
+pub use arg_settings::ArgSettings;
 pub use source::FormSource;
 pub use source::Keyed;
 pub use views::ArgView;

@@ -44,7 +44,8 @@ impl ValueRange {
         ensures value { λ r. ⌜ r ≡ bounds (now (self .entry)) .least ⌝ }
         ensures means { λ r. ⌜ Fewest (bounds (now (self .entry))) r ⌝ }
     {
-        self.start_inclusive
+        let fewest = self.start_inclusive;
+        fewest
     }
 
     /// The most values that the argument accepts.
@@ -52,7 +53,8 @@ impl ValueRange {
         ensures value { λ r. ⌜ r ≡ bounds (now (self .entry)) .most ⌝ }
         ensures means { λ r. ⌜ Greatest (bounds (now (self .entry))) r ⌝ }
     {
-        self.end_inclusive
+        let greatest = self.end_inclusive;
+        greatest
     }
 
     /// Whether the argument takes any values; a flag takes none.

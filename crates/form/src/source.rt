@@ -10,7 +10,7 @@ ghost use Rattle.form.specs.Lists.{names-at, letters-at};
 ghost use Rattle.form.specs.Keys.{keys-of};
 ghost use Rattle.form.specs.Shown.{shown, arg-record, shown-subcommand, subcommand-record, shown-key};
 use super::lists::ItemList;
-use super::settings::AppFlags;
+use super::app_settings::AppFlags;
 use super::views::ArgView;
 use super::views::GroupView;
 use super::views::Key;

@@ -1,6 +1,6 @@
 use super::action::ArgAction;
 use super::range::ValueRange;
-use super::settings::ArgFlags;
+use super::arg_settings::ArgFlags;
 
 /// An argument's record, as a source shows it: its names are parts of the source.
 #[derive(Clone, Copy)]

@@ -13,9 +13,9 @@ use Rattle.form.specs.Lists.{list-number, arg-names}
 use Rattle.form.specs.declared.action.ArgAction.the-variants.{Version}
 use Rattle.form.specs.declared.lists.ItemList.{ItemList}
 use Rattle.form.specs.declared.lists.ItemList.the-variants.{Requires, Conflicts, Members, GroupRequires, GroupConflicts}
-use Rattle.form.specs.declared.settings.ArgSettings.{ArgSettings}
-use Rattle.form.specs.declared.settings.ArgSettings.the-variants.{Required, Global, HidePossibleValues, AllowHyphenValues, AllowNegativeNumbers, RequireEquals, Last, TrailingVarArg, HideDefaultValue, IgnoreCase}
-use Rattle.form.specs.declared.settings.AppSettings.the-variants.{Multicall, NoBinaryName, PropagateVersion, SubcommandsNegateReqs, HasVersion}
+use Rattle.form.specs.declared.arg_settings.ArgSettings.{ArgSettings}
+use Rattle.form.specs.declared.arg_settings.ArgSettings.the-variants.{Required, Global, HidePossibleValues, AllowHyphenValues, AllowNegativeNumbers, RequireEquals, Last, TrailingVarArg, HideDefaultValue, IgnoreCase}
+use Rattle.form.specs.declared.app_settings.AppSettings.the-variants.{Multicall, NoBinaryName, PropagateVersion, SubcommandsNegateReqs, HasVersion}
 use Rattle.rules.specs.declared.rule.Rule.the-variants.{PropagateWithoutVersion, VersionActionWithoutVersion, LongFlagDash, ConflictsWithItself, TooManyValues, IndexWithFlag, IndexZero, IndexWithoutValue, PositionalWithoutIndex, RangeUnset, EqualsWithMany, SettingWithoutValue, MulticallArgument, LongNameDash, SameId, SameLongName, SameLetter, SameIndex, RequiresItself, RequiredConditionally, MissingReference, LastWithLong, LastWithLetter, RequiredGlobal, SameGroupId, GroupIdOfArgument, MissingMember, MissingGroupRequirement, MissingGroupConflict, SameLongFlag, SameLetterFlag, SubcommandNameTaken, SubcommandAliasTaken, PositionsWithGaps, TrailingLast, TrailingNotMultiple, TrailingElsewhere, OpenBeforeOptional, MultipleElsewhere, TooManyMultiple, OptionalBeforeRequired, TwoLast, RequiredLastWithSubcommands, MulticallWithoutBinaryName, FormCut}
 use Rattle.rules.specs.declared.breach.Breach.{Breach}
 use Rattle.rules.specs.Order.{Stands}

@@ -7,3 +7,4 @@ pub mod Rank
 pub mod Rows
 pub mod Report
 pub mod Tidy
+pub mod Laws

@@ -12,7 +12,7 @@ use Rattle.form.specs.Model.{Name, Arg, Group, Subcommand, Form}
 use Rattle.form.specs.Settings.{arg-set}
 use Rattle.form.specs.declared.lists.ItemList.{ItemList}
 use Rattle.form.specs.declared.lists.ItemList.the-variants.{Conflicts}
-use Rattle.form.specs.declared.settings.ArgSettings.the-variants.{Required}
+use Rattle.form.specs.declared.arg_settings.ArgSettings.the-variants.{Required}
 use Rattle.rules.specs.declared.rule.Rule.{Rule}
 use Rattle.rules.specs.declared.rule.Rule.the-variants.{SubcommandNameTaken, SubcommandAliasTaken, OptionalBeforeRequired}
 use Rattle.rules.specs.declared.breach.Breach.{Breach}

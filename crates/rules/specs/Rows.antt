@@ -20,8 +20,8 @@ use Rattle.form.specs.declared.lists.EntryKind.{EntryKind}
 use Rattle.form.specs.declared.lists.EntryKind.the-variants as kind
 use Rattle.form.specs.declared.lists.ItemList.{ItemList}
 use Rattle.form.specs.declared.lists.ItemList.the-variants.{Requires, RIfs, RIfsAll, RUnless, RUnlessAll, Conflicts, Overrides, Members, GroupRequires, GroupConflicts}
-use Rattle.form.specs.declared.settings.ArgSettings.the-variants.{Required, Global, RequireEquals, Last, TrailingVarArg}
-use Rattle.form.specs.declared.settings.AppSettings.the-variants.{Multicall, NoBinaryName, PropagateVersion, SubcommandsNegateReqs, HasVersion}
+use Rattle.form.specs.declared.arg_settings.ArgSettings.the-variants.{Required, Global, RequireEquals, Last, TrailingVarArg}
+use Rattle.form.specs.declared.app_settings.AppSettings.the-variants.{Multicall, NoBinaryName, PropagateVersion, SubcommandsNegateReqs, HasVersion}
 use Rattle.rules.specs.declared.rule.Rule.{Rule}
 use Rattle.rules.specs.declared.rule.Rule.the-variants.{PropagateWithoutVersion, VersionActionWithoutVersion, LongFlagDash, ConflictsWithItself, TooManyValues, IndexWithFlag, IndexZero, IndexWithoutValue, PositionalWithoutIndex, RangeUnset, EqualsWithMany, SettingWithoutValue, MulticallArgument, LongNameDash, SameId, SameLongName, SameLetter, SameIndex, RequiresItself, RequiredConditionally, MissingReference, LastWithLong, LastWithLetter, RequiredGlobal, SameGroupId, GroupIdOfArgument, MissingMember, MissingGroupRequirement, MissingGroupConflict, SameLongFlag, SameLetterFlag, SubcommandNameTaken, SubcommandAliasTaken, PositionsWithGaps, TrailingLast, TrailingNotMultiple, TrailingElsewhere, OpenBeforeOptional, MultipleElsewhere, TooManyMultiple, OptionalBeforeRequired, TwoLast, RequiredLastWithSubcommands, MulticallWithoutBinaryName, FormCut}
 use Rattle.rules.specs.Order.{some}

@@ -12,7 +12,7 @@ use Rattle.form.specs.Model.{Name, Arg, Group, Form}
 use Rattle.form.specs.Keys.{KeyName, position, letter, long, Key, key-names, keys-of}
 use Rattle.form.specs.Lists.{list-number, arg-names}
 use Rattle.form.specs.declared.lists.ItemList.{ItemList}
-use Rattle.form.specs.declared.settings.ArgSettings.the-variants.{Last}
+use Rattle.form.specs.declared.arg_settings.ArgSettings.the-variants.{Last}
 use Rattle.rules.specs.declared.breach.Breach.{Breach}
 use Rattle.rules.specs.Order.{Stands, Member}
 use Rattle.rules.specs.Words.{Has, Positional, Arg-named, Group-named, Owner, owners, Flag, Called}

@@ -11,8 +11,8 @@ use Rattle.form.specs.Model.{Name, Range, Arg, Group, Subcommand, Form}
 use Rattle.form.specs.Settings.{arg-set, app-set}
 use Rattle.form.specs.Keys.{listed}
 use Rattle.form.specs.declared.action.ArgAction.the-variants.{Append}
-use Rattle.form.specs.declared.settings.ArgSettings.{ArgSettings}
-use Rattle.form.specs.declared.settings.AppSettings.{AppSettings}
+use Rattle.form.specs.declared.arg_settings.ArgSettings.{ArgSettings}
+use Rattle.form.specs.declared.app_settings.AppSettings.{AppSettings}
 use Rattle.rules.specs.Order.{Stands, each}
 use Rattle.rules.specs.declared.breach.Entry.{Entry}
 use Rattle.rules.specs.Told.{argument, subcommand}
