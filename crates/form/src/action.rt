@@ -22,17 +22,7 @@ impl ArgAction {
     pub fn code(self) -> u8
         ensures { λ r. ⌜ r ≡ action-code self ⌝ }
     {
-        match self {
-            ArgAction::Set => 0,
-            ArgAction::Append => 1,
-            ArgAction::SetTrue => 2,
-            ArgAction::SetFalse => 3,
-            ArgAction::Count => 4,
-            ArgAction::Help => 5,
-            ArgAction::HelpShort => 6,
-            ArgAction::HelpLong => 7,
-            ArgAction::Version => 8,
-        }
+        self as u8
     }
 
     /// The action of a code, if there is one.

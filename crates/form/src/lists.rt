@@ -20,7 +20,7 @@ pub enum ItemSort {
 #[derive(Clone, Copy, PartialEq, Eq)]
 pub enum ItemList {
     /// arguments or groups that must come with it
-    Requires,
+    Requires = 1,
     /// one of these makes it required
     RIfs,
     /// all of these make it required
@@ -56,23 +56,7 @@ impl ItemList {
     pub fn number(self) -> u8
         ensures { λ r. ⌜ r ≡ list-number self ⌝ }
     {
-        match self {
-            ItemList::Requires => 1,
-            ItemList::RIfs => 2,
-            ItemList::RIfsAll => 3,
-            ItemList::RUnless => 4,
-            ItemList::RUnlessAll => 5,
-            ItemList::Conflicts => 6,
-            ItemList::Overrides => 7,
-            ItemList::LongAliases => 8,
-            ItemList::LetterAliases => 9,
-            ItemList::Members => 10,
-            ItemList::GroupRequires => 11,
-            ItemList::GroupConflicts => 12,
-            ItemList::SubcommandAliases => 13,
-            ItemList::LongFlagAliases => 14,
-            ItemList::LetterFlagAliases => 15,
-        }
+        self as u8
     }
 
     /// The list of a number, if there is one.

@@ -28,37 +28,37 @@ pub enum LetterFault {
 #[derive(Clone, Copy, PartialEq, Eq)]
 pub enum Refusal {
     /// a range whose least is above its most
-    RangeOrder,
+    RangeOrder = 101,
     /// a name that has not 1 to 32 bytes
-    NameLength,
+    NameLength = 102,
     /// a letter that is no Unicode scalar value
-    NoScalar,
+    NoScalar = 103,
     /// a table that is full
-    TableFull,
+    TableFull = 104,
     /// no mark is left
-    MarksSpent,
+    MarksSpent = 105,
     /// no entry, or none of that kind, bears the mark
-    NoSuchMark,
+    NoSuchMark = 106,
     /// a list that is not one of the entry, or holds the other sort of item
-    WrongList,
+    WrongList = 107,
     /// no row is left for an item
-    RowsTaken,
+    RowsTaken = 108,
     /// a list that is shorter than the breaches
-    ListShort,
+    ListShort = 109,
     /// no key equals the one sought
-    NoSuchKey,
+    NoSuchKey = 110,
     /// a sheet that is too short or has a wrong end
-    NoTrailer,
+    NoTrailer = 111,
     /// a body that is longer than the bytes before the trailer
-    BodyTooLong,
+    BodyTooLong = 112,
     /// what goes past the end of its entry or body, or leaves bytes over
-    WrongLength,
+    WrongLength = 113,
     /// a code or bit that has no meaning
-    UnknownCode,
+    UnknownCode = 114,
     /// an item before any entry
-    ItemFirst,
+    ItemFirst = 115,
     /// more than a form can hold
-    BeyondLimits,
+    BeyondLimits = 116,
 }
 
 impl Refusal {
@@ -66,24 +66,7 @@ impl Refusal {
     pub fn number(self) -> u8
         ensures { λ r. ⌜ r ≡ refusal-number self ⌝ }
     {
-        match self {
-            Refusal::RangeOrder => 101,
-            Refusal::NameLength => 102,
-            Refusal::NoScalar => 103,
-            Refusal::TableFull => 104,
-            Refusal::MarksSpent => 105,
-            Refusal::NoSuchMark => 106,
-            Refusal::WrongList => 107,
-            Refusal::RowsTaken => 108,
-            Refusal::ListShort => 109,
-            Refusal::NoSuchKey => 110,
-            Refusal::NoTrailer => 111,
-            Refusal::BodyTooLong => 112,
-            Refusal::WrongLength => 113,
-            Refusal::UnknownCode => 114,
-            Refusal::ItemFirst => 115,
-            Refusal::BeyondLimits => 116,
-        }
+        self as u8
     }
 }
 
