@@ -1,6 +1,9 @@
 -- The keys of a form: by what its arguments are found.
 use mathlib.Core.List.{List, [], _∷_, _++_, map}
+use mathlib.Core.Bool.{Bool, false, cond}
 use Prim.Native.Nat.{ℕ, suc}
+use lib.Dec.{eqb}
+use Rattle.std.specs.shelf.Text.{sameBytes}
 use Rattle.std.specs.declared.option.Option.{Option}
 use Rattle.std.specs.declared.option.Option.the-variants.{Some, None}
 use Rattle.form.specs.Model.{Name, Arg, Form}
@@ -39,3 +42,20 @@ keys-from p (a ∷ rest) = arg-keys p a ++ keys-from (suc p) rest
 -- the keys of a form, in the order of its arguments
 abbrev pub keys-of : Form → List Key
 keys-of f = keys-from 0 (f .args)
+
+-- equal keys: of one kind, with the same number or the same bytes
+abbrev pub same-key : KeyName → KeyName → Bool
+same-key (position m) (position n) = eqb m n
+same-key (position m) (letter n) = false
+same-key (position m) (long y) = false
+same-key (letter m) (position n) = false
+same-key (letter m) (letter n) = eqb m n
+same-key (letter m) (long y) = false
+same-key (long x) (position n) = false
+same-key (long x) (letter n) = false
+same-key (long x) (long y) = sameBytes x y
+
+-- the place that the first equal key has, where there is one
+abbrev pub first-key : KeyName → List Key → Option ℕ
+first-key k [] = None
+first-key k (e ∷ es) = cond (same-key k (e .name)) (Some (e .place)) (first-key k es)

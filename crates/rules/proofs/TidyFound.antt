@@ -10,12 +10,12 @@ use Rattle.std.specs.declared.option.Option.the-variants.{Some, None}
 use Rattle.std.proofs.shelf.Equals.{sameBytes-decides}
 use Rattle.std.proofs.shelf.Tests.{both-ways, false≢true, eqb-true, eq-eqb}
 use Rattle.form.specs.Model.{Name, Arg, Form}
-use Rattle.form.specs.Keys.{KeyName, position, letter, long, Key, listed, key-names, arg-keys, keys-from, keys-of}
+use Rattle.form.specs.Keys.{KeyName, position, letter, long, Key, listed, key-names, arg-keys, keys-from, keys-of, same-key, first-key}
 use Rattle.rules.specs.declared.breach.Breach.{Breach}
 use Rattle.rules.specs.Order.{Stands, Member}
 use Rattle.rules.specs.Words.{Flag, of-argument}
 use Rattle.rules.specs.Breaks.{Breaks, rule-12}
-use Rattle.rules.specs.Tidy.{Has-key, same-key, first-key}
+use Rattle.rules.specs.Tidy.{Has-key}
 use Rattle.rules.proofs.TidyPlaces.{nothing, member-stands, member-left, member-right, member-split, member-map, member-unmap}
 use Rattle.rules.proofs.TidyOwners.{argument-owns, one-long, one-letter}
 use Rattle.rules.proofs.TidyPositions.{one-index}

@@ -1,15 +1,12 @@
 -- What a form that breaks no rule is, in the subject's own words: how its arguments, groups and subcommands hang together.
 use mathlib.Core.Path.{_≡_}
 use mathlib.Core.List.{List, [], _∷_}
-use mathlib.Core.Bool.{Bool, false, cond}
 use mathlib.Core.Logic.{_⊎_}
 use Prim.Native.Nat.{ℕ, _+_, _≤_}
-use lib.Dec.{eqb}
 use Rattle.std.specs.declared.option.Option.{Option}
 use Rattle.std.specs.declared.option.Option.the-variants.{Some, None}
-use Rattle.std.specs.shelf.Text.{sameBytes}
 use Rattle.form.specs.Model.{Name, Arg, Group, Form}
-use Rattle.form.specs.Keys.{KeyName, position, letter, long, Key, key-names, keys-of}
+use Rattle.form.specs.Keys.{KeyName, key-names, keys-of, first-key}
 use Rattle.form.specs.Lists.{list-number, arg-names}
 use Rattle.form.specs.declared.lists.ItemList.{ItemList}
 use Rattle.form.specs.declared.arg_settings.ArgSettings.the-variants.{Last}
@@ -58,23 +55,6 @@ Has-letter f c i = (o : Owner) × (k : ℕ) × Stands (owners f) i o × Flag (o 
 -- the argument at p has the key k
 abbrev pub Has-key : Form → KeyName → ℕ → Type 0
 Has-key f k p = (a : Arg) × Stands (f .args) p a × Member k (key-names (a .index) a)
-
--- equal keys: of one kind, with the same number or the same bytes
-abbrev pub same-key : KeyName → KeyName → Bool
-same-key (position m) (position n) = eqb m n
-same-key (position m) (letter n) = false
-same-key (position m) (long y) = false
-same-key (letter m) (position n) = false
-same-key (letter m) (letter n) = eqb m n
-same-key (letter m) (long y) = false
-same-key (long x) (position n) = false
-same-key (long x) (letter n) = false
-same-key (long x) (long y) = sameBytes x y
-
--- the place that the first equal key has, where there is one
-abbrev pub first-key : KeyName → List Key → Option ℕ
-first-key k [] = None
-first-key k (e ∷ es) = cond (same-key k (e .name)) (Some (e .place)) (first-key k es)
 
 pub record Tidy (f : Form) : Type 0 where
   -- each of the n positional arguments has an index, from 1 to n
