@@ -1,8 +1,13 @@
 //! What the desk says: each command as a function from its input to the text that it prints.
+mod breaches;
 mod lines;
 mod ranges;
 mod text;
+mod words;
 
+pub use breaches::say_breach;
+pub use breaches::say_plain_breach;
+pub use breaches::say_report;
 pub use ranges::Tally;
 pub use ranges::say_ranges;
 pub use text::Text;
