@@ -1,20 +1,19 @@
-mod Alone
-mod Coded
-mod Complete
-mod Decided
-mod Deciding
-mod Firsts
-mod Listing
-mod Lists
-mod Moves
-mod Owners
-mod Positions
-mod Rulings
-mod Sections
-mod Shapes
-mod Sound
-mod Spots
-mod Wides
+pub mod Alone
+pub mod Coded
+pub mod Complete
+pub mod Decided
+pub mod Deciding
+pub mod Firsts
+pub mod Listing
+pub mod Lists
+pub mod Moves
+pub mod Owners
+pub mod Positions
+pub mod Rulings
+pub mod Sections
+pub mod Shapes
+pub mod Sound
+pub mod Spots
 pub mod Tidied
 pub mod TidyCounts
 pub mod TidyFound
@@ -22,3 +21,4 @@ pub mod TidyOwners
 pub mod TidyPlaces
 pub mod TidyPositions
 pub mod TidyRefers
+pub mod Wides
