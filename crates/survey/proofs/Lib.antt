@@ -1,0 +1,13 @@
+pub mod Counts
+pub mod Masks
+pub mod Members
+pub mod Pairs
+pub mod Tables
+pub mod Walks
+pub mod Searches
+pub mod Descents
+pub mod TwoEnds
+pub mod Owners
+pub mod Clashes
+pub mod TakenNames
+pub mod PartsTold

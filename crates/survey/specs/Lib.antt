@@ -1,0 +1,12 @@
+pub mod Sinks
+pub mod Trailing
+pub mod Alike
+pub mod Groups
+pub mod Offers
+pub mod Parts
+pub mod Records
+pub mod Settled
+pub mod Ends
+pub mod FlagOwners
+pub mod Called
+pub mod Sections
