@@ -10,3 +10,5 @@ pub mod Lists
 pub mod Keys
 pub mod Shown
 pub mod Limits
+pub mod Blank
+pub mod KeysAt

@@ -2,6 +2,8 @@
 mod action;
 mod app_settings;
 mod arg_settings;
+mod by_ref;
+mod keys;
 mod lists;
 mod name;
 mod names;
@@ -12,6 +14,10 @@ mod source;
 mod views;
 
 pub use action::ArgAction;
+pub use by_ref::RefKeyed;
+pub use by_ref::RefSource;
+pub use keys::count_keys;
+pub use keys::key_at;
 pub use lists::EntryKind;
 pub use lists::EntryKindPartialEq;
 pub use lists::ItemList;

@@ -1,3 +1,6 @@
+ghost use mathlib.Core.Path.{_≡_};
+ghost use Rattle.form.specs.Shown.{shown, shown-subcommand};
+ghost use Rattle.form.specs.Blank.{arg-named, subcommand-named};
 use super::action::ArgAction;
 use super::range::ValueRange;
 use super::arg_settings::ArgFlags;
@@ -15,6 +18,24 @@ pub struct ArgView<'a> {
     pub range: Option<ValueRange>,
 }
 
+impl<'a> ArgView<'a> {
+    /// An argument of that id, otherwise blank: action Set, and none, no or unset for the rest.
+    pub fn new(id: &'a [u8]) -> ArgView<'a>
+        ensures { λ r. ⌜ shown r ≡ arg-named (now (id .entry)) ⌝ }
+    {
+        ArgView {
+            id,
+            long: None,
+            letter: None,
+            index: None,
+            settings: ArgFlags::from_bits(0),
+            action: ArgAction::Set,
+            terminated: false,
+            range: None,
+        }
+    }
+}
+
 /// A group's record.
 #[derive(Clone, Copy)]
 pub struct GroupView<'a> {
@@ -27,6 +48,19 @@ pub struct SubcommandView<'a> {
     pub name: &'a [u8],
     pub long: Option<&'a [u8]>,
     pub letter: Option<char>,
+}
+
+impl<'a> SubcommandView<'a> {
+    /// A subcommand of that name, without flags.
+    pub fn new(name: &'a [u8]) -> SubcommandView<'a>
+        ensures { λ r. ⌜ shown-subcommand r ≡ subcommand-named (now (name .entry)) ⌝ }
+    {
+        SubcommandView {
+            name,
+            long: None,
+            letter: None,
+        }
+    }
 }
 
 /// What an argument is found by.

@@ -1,0 +1,4 @@
+pub mod Flags
+pub mod Room
+pub mod Named
+pub mod Fitted
