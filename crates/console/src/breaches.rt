@@ -18,10 +18,12 @@ pub fn say_report<F: FormSource, W: Write>(out: &mut W, form: &F, breaches: &[Br
     let count = breaches.len();
     if plain {
         writeln!(out, "breaches {count}")?;
-    } else if count == 0 {
-        writeln!(out, "no breaches")?;
     } else {
-        writeln!(out, "{count} breaches:")?;
+        match count {
+            0 => writeln!(out, "no breaches")?,
+            1 => writeln!(out, "1 breach:")?,
+            _ => writeln!(out, "{count} breaches:")?,
+        }
     }
     for breach in breaches {
         if plain {

@@ -3,6 +3,7 @@ mod breaches;
 mod lines;
 mod ranges;
 mod text;
+mod tour;
 mod words;
 
 pub use breaches::say_breach;
@@ -12,3 +13,4 @@ pub use ranges::Tally;
 pub use ranges::say_ranges;
 pub use text::Text;
 pub use text::TextDisplay;
+pub use tour::say_tour;

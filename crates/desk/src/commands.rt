@@ -3,6 +3,7 @@ use super::options::Options;
 use super::options::read_options;
 use super::usage::USAGE;
 use console::say_ranges;
+use console::say_tour;
 use std::env;
 use std::error::AnyError;
 
@@ -16,6 +17,7 @@ pub fn run(rt: &LibcRuntime) -> Result<(), AnyError> {
     let options = read_options(rt.alloc(), words)?;
     match command.as_str() {
         "ranges" => ranges(rt, &options),
+        "tour" => print_tour(rt, options.plain),
         "samples" => samples(rt),
         "help" | "--help" | "-h" => help(rt),
         other => {
@@ -45,10 +47,21 @@ fn print_ranges(rt: &LibcRuntime, file: &str, plain: bool) -> Result<(), AnyErro
     Ok(())
 }
 
+fn print_tour(rt: &LibcRuntime, plain: bool) -> Result<(), AnyError> {
+    let mut out = String::new(rt.alloc());
+    say_tour(&mut out, plain)?;
+    rt.print(out)?;
+    Ok(())
+}
+
 // Each command on the samples that come with the program.
 fn samples(rt: &LibcRuntime) -> Result<(), AnyError> {
     println!(rt, "$ desk ranges samples/ranges.txt")?;
     print_ranges(rt, "samples/ranges.txt", false)?;
     println!(rt, "$ desk ranges --plain samples/ranges.txt")?;
-    print_ranges(rt, "samples/ranges.txt", true)
+    print_ranges(rt, "samples/ranges.txt", true)?;
+    println!(rt, "$ desk tour")?;
+    print_tour(rt, false)?;
+    println!(rt, "$ desk tour --plain")?;
+    print_tour(rt, true)
 }
