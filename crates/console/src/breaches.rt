@@ -14,7 +14,12 @@ use std::fmt;
 use std::fmt::Write;
 
 /// Says a report: plain, `breaches N` and a line a breach; else a sentence for each.
-pub fn say_report<F: FormSource, W: Write>(out: &mut W, form: &F, breaches: &[Breach], plain: bool) -> fmt::Result {
+pub fn say_report<F: FormSource, W: Write>(
+    out: &mut W,
+    form: &F,
+    breaches: &[Breach],
+    plain: bool,
+) -> fmt::Result {
     let count = breaches.len();
     if plain {
         writeln!(out, "breaches {count}")?;
@@ -99,11 +104,21 @@ fn say_entry<F: FormSource, W: Write>(out: &mut W, form: &F, entry: Entry) -> fm
     match entry.kind {
         EntryKind::Argument => write!(out, "{kind} `{}`", Text::new(form.arg(entry.place).id)),
         EntryKind::Group => write!(out, "{kind} `{}`", Text::new(form.group(entry.place).id)),
-        EntryKind::Subcommand => write!(out, "{kind} `{}`", Text::new(form.subcommand(entry.place).name)),
+        EntryKind::Subcommand => write!(
+            out,
+            "{kind} `{}`",
+            Text::new(form.subcommand(entry.place).name)
+        ),
     }
 }
 
-fn say_item<F: FormSource, W: Write>(out: &mut W, form: &F, list: ItemList, place: usize, item: usize) -> fmt::Result {
+fn say_item<F: FormSource, W: Write>(
+    out: &mut W,
+    form: &F,
+    list: ItemList,
+    place: usize,
+    item: usize,
+) -> fmt::Result {
     let number = list.number();
     let word = list_word(list);
     write!(out, ", list {number} ({word}), item {item}")?;

@@ -34,7 +34,11 @@ impl Tally {
 /// Says of each line of the input what range it is, and answers how many were what.
 /// Plain answers are `range LEAST MOST`, `refused 101` or `no range`.
 pub fn say_ranges<W: Write>(out: &mut W, input: &[u8], plain: bool) -> Result<Tally, fmt::Error> {
-    let mut tally = Tally { lines: 0, taken: 0, refused: 0 };
+    let mut tally = Tally {
+        lines: 0,
+        taken: 0,
+        refused: 0,
+    };
     let mut rest = input;
     while !rest.is_empty() {
         let (line, later) = split_line(rest);
@@ -54,7 +58,10 @@ pub fn say_ranges<W: Write>(out: &mut W, input: &[u8], plain: bool) -> Result<Ta
     Ok(tally)
 }
 
-fn say_plain<W: Write>(out: &mut W, reading: Option<Result<ValueRange, RangeFault>>) -> fmt::Result {
+fn say_plain<W: Write>(
+    out: &mut W,
+    reading: Option<Result<ValueRange, RangeFault>>,
+) -> fmt::Result {
     let Some(answer) = reading else {
         return writeln!(out, "no range");
     };
@@ -88,7 +95,10 @@ fn say_line<W: Write>(
         Ok(range) => say_range(out, range),
         Err(fault) => {
             let number = Refusal::from(fault).number();
-            writeln!(out, "refused ({number}): the least number of values would be above the most")
+            writeln!(
+                out,
+                "refused ({number}): the least number of values would be above the most"
+            )
         }
     }
 }
@@ -96,8 +106,16 @@ fn say_line<W: Write>(
 fn say_range<W: Write>(out: &mut W, range: ValueRange) -> fmt::Result {
     let least = range.min_values();
     let most = range.max_values();
-    let takes = if range.takes_values() { "takes values" } else { "takes no values" };
-    let many = if range.is_multiple() { "many" } else { "not many" };
+    let takes = if range.takes_values() {
+        "takes values"
+    } else {
+        "takes no values"
+    };
+    let many = if range.is_multiple() {
+        "many"
+    } else {
+        "not many"
+    };
     if range.is_unbounded() {
         writeln!(out, "at least {least}, with no upper end; {takes}, {many}")
     } else {
@@ -110,5 +128,8 @@ fn say_tally<W: Write>(out: &mut W, tally: Tally) -> fmt::Result {
     let taken = tally.taken;
     let refused = tally.refused;
     let neither = lines.saturating_sub(taken).saturating_sub(refused);
-    writeln!(out, "{lines} lines read: {taken} taken, {refused} refused, {neither} no range")
+    writeln!(
+        out,
+        "{lines} lines read: {taken} taken, {refused} refused, {neither} no range"
+    )
 }

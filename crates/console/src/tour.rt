@@ -24,7 +24,14 @@ use table::TableKeyed;
 use table::TableSource;
 
 /// What an unused place of a list holds.
-const UNUSED: Breach = Breach { rule: Rule::FormCut, first: None, second: None, list: None, item: 0, other: 0 };
+const UNUSED: Breach = Breach {
+    rule: Rule::FormCut,
+    first: None,
+    second: None,
+    list: None,
+    item: 0,
+    other: 0,
+};
 
 /// How many breaches a list of the tour has room for.
 const ROOM: usize = 64;
@@ -50,15 +57,25 @@ fn switch(id: &'static [u8], letter: char) -> ArgView<'static> {
 }
 
 fn commit() -> ArgRow<'static> {
-    ArgRow { arg: switch(b"commit", 'c'), conflicts: &[b"unpaid"], ..ArgRow::new(b"commit") }
+    ArgRow {
+        arg: switch(b"commit", 'c'),
+        conflicts: &[b"unpaid"],
+        ..ArgRow::new(b"commit")
+    }
 }
 
 fn draft() -> ArgRow<'static> {
-    ArgRow { arg: switch(b"draft", 'd'), ..ArgRow::new(b"draft") }
+    ArgRow {
+        arg: switch(b"draft", 'd'),
+        ..ArgRow::new(b"draft")
+    }
 }
 
 fn unpaid() -> GroupRow<'static> {
-    GroupRow { members: &[b"draft"], ..GroupRow::new(b"unpaid") }
+    GroupRow {
+        members: &[b"draft"],
+        ..GroupRow::new(b"unpaid")
+    }
 }
 
 // a positional argument of one value
@@ -69,7 +86,10 @@ fn position(id: &'static [u8], index: u16, settings: u16) -> ArgRow<'static> {
         range: Some(ValueRange::SINGLE),
         ..ArgView::new(id)
     };
-    ArgRow { arg: view, ..ArgRow::new(id) }
+    ArgRow {
+        arg: view,
+        ..ArgRow::new(id)
+    }
 }
 
 // a conflict that names a subcommand only
@@ -78,7 +98,12 @@ fn say_incident<W: Write>(out: &mut W, plain: bool) -> fmt::Result {
     let groups: [GroupRow<'static>; 0] = [];
     let subcommands: [SubcommandRow<'static>; 1] = [SubcommandRow::new(b"unpaid")];
     let form = TableForm::new(AppFlags::from_bits(0), &args, &groups, &subcommands);
-    say_both(out, "commit conflicts with unpaid, which is only a subcommand", &form, plain)
+    say_both(
+        out,
+        "commit conflicts with unpaid, which is only a subcommand",
+        &form,
+        plain,
+    )
 }
 
 // the same with a group of that name
@@ -105,7 +130,10 @@ fn say_taken_help<W: Write>(out: &mut W, plain: bool) -> fmt::Result {
         range: Some(ValueRange::SINGLE),
         ..ArgView::new(b"host")
     };
-    let args = [ArgRow { arg: view, ..ArgRow::new(b"host") }];
+    let args = [ArgRow {
+        arg: view,
+        ..ArgRow::new(b"host")
+    }];
     let form = TableForm::of_args(AppFlags::from_bits(0), &args);
     say_both(out, "host has -h and --help", &form, plain)
 }
@@ -114,7 +142,12 @@ fn say_taken_help<W: Write>(out: &mut W, plain: bool) -> fmt::Result {
 fn say_trailing<W: Write>(out: &mut W, plain: bool) -> fmt::Result {
     let args = [position(b"files", 1, 0x300)];
     let form = TableForm::of_args(AppFlags::from_bits(0), &args);
-    say_both(out, "files is trailing and last, with one value", &form, plain)
+    say_both(
+        out,
+        "files is trailing and last, with one value",
+        &form,
+        plain,
+    )
 }
 
 fn say_both<K: Keyed, W: Write>(out: &mut W, title: &str, form: &K, plain: bool) -> fmt::Result {

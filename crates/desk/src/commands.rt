@@ -21,7 +21,10 @@ pub fn run(rt: &LibcRuntime) -> Result<(), AnyError> {
         "samples" => samples(rt),
         "help" | "--help" | "-h" => help(rt),
         other => {
-            let message = format!(rt.alloc(), "there is no command `{other}`; `desk help` lists what there is")?;
+            let message = format!(
+                rt.alloc(),
+                "there is no command `{other}`; `desk help` lists what there is"
+            )?;
             Err(message.into())
         }
     }

@@ -7,7 +7,11 @@ use std::io::Read;
 
 /// The bytes of a file, or of standard input where the file is `-`.
 pub fn read_file(rt: &LibcRuntime, file: &str) -> Result<Vec<u8>, AnyError> {
-    let read = if file == "-" { read_input(rt) } else { fs::read(rt, file) };
+    let read = if file == "-" {
+        read_input(rt)
+    } else {
+        fs::read(rt, file)
+    };
     match read {
         Ok(bytes) => Ok(bytes),
         Err(error) => Err(unreadable(rt.alloc(), file, error)?.into()),

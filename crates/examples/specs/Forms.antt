@@ -16,10 +16,24 @@ use Rattle.rules.specs.Told.{argument, of-form, of-item}
 -- an argument of one value, by its id, long name, index, conflicts and long aliases
 abbrev pub arg : Name → Option Name → Option ℕ → List Name → List Name → Arg
 arg id long index conflicts aliases = record {
-  id = id; long = long; letter = None; index = index; settings = 0; action = Set; terminated = false;
+  id = id;
+  long = long;
+  letter = None;
+  index = index;
+  settings = 0;
+  action = Set;
+  terminated = false;
   range = Some (record { least = 1; most = 1 });
-  requires = []; r-ifs = []; r-ifs-all = []; r-unless = []; r-unless-all = []; conflicts = conflicts; overrides = [];
-  long-aliases = aliases; letter-aliases = [] }
+  requires = [];
+  r-ifs = [];
+  r-ifs-all = [];
+  r-unless = [];
+  r-unless-all = [];
+  conflicts = conflicts;
+  overrides = [];
+  long-aliases = aliases;
+  letter-aliases = [];
+}
 
 abbrev pub group : Name → Group
 group id = record { id = id; members = []; requires = []; conflicts = [] }

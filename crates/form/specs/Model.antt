@@ -66,9 +66,24 @@ pub record Form : Type 0 where
 -- what stands past the end of a table: empty id, action Set, otherwise none, no or unset
 abbrev pub blank-arg : Arg
 blank-arg = record {
-  id = []; long = None; letter = None; index = None; settings = 0; action = Set; terminated = false; range = None;
-  requires = []; r-ifs = []; r-ifs-all = []; r-unless = []; r-unless-all = []; conflicts = []; overrides = [];
-  long-aliases = []; letter-aliases = [] }
+  id = [];
+  long = None;
+  letter = None;
+  index = None;
+  settings = 0;
+  action = Set;
+  terminated = false;
+  range = None;
+  requires = [];
+  r-ifs = [];
+  r-ifs-all = [];
+  r-unless = [];
+  r-unless-all = [];
+  conflicts = [];
+  overrides = [];
+  long-aliases = [];
+  letter-aliases = [];
+}
 
 abbrev pub blank-group : Group
 blank-group = record { id = []; members = []; requires = []; conflicts = [] }

@@ -38,7 +38,9 @@ impl ArgFlags {
     pub fn from_bits(bits: u16) -> ArgFlags
         ensures { λ r. ⌜ r .bits ≡ arg-kept bits ⌝ }
     {
-        ArgFlags { bits: bits % 0x1000 }
+        ArgFlags {
+            bits: bits % 0x1000,
+        }
     }
 
     /// The number whose bits are the settings.

@@ -1,5 +1,5 @@
-use super::lists::ItemList;
 use super::app_settings::AppFlags;
+use super::lists::ItemList;
 use super::source::FormSource;
 use super::source::Keyed;
 use super::views::ArgView;

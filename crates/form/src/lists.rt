@@ -88,10 +88,10 @@ impl ItemList {
         ensures { λ r. ⌜ r ≡ list-owner self ⌝ }
     {
         match self {
-            ItemList::Members | ItemList::GroupRequires | ItemList::GroupConflicts => EntryKind::Group,
-            ItemList::SubcommandAliases | ItemList::LongFlagAliases | ItemList::LetterFlagAliases => {
-                EntryKind::Subcommand
-            }
+            ItemList::Members | ItemList::GroupRequires | ItemList::GroupConflicts =>
+                EntryKind::Group,
+            ItemList::SubcommandAliases | ItemList::LongFlagAliases | ItemList::LetterFlagAliases =>
+                { EntryKind::Subcommand }
             _ => EntryKind::Argument,
         }
     }

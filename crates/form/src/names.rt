@@ -23,7 +23,10 @@ impl Name {
         }
         let mut held = [0u8; 32];
         held[0..len].copy_from_slice(bytes);
-        Ok(Name { bytes: held, len: len as u8 })
+        Ok(Name {
+            bytes: held,
+            len: len as u8,
+        })
     }
 
     /// The bytes of the name.

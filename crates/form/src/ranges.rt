@@ -18,16 +18,28 @@ use std::ops::RangeToInclusive;
 
 impl ValueRange {
     /// No values: a flag.
-    pub const EMPTY: ValueRange = ValueRange { start_inclusive: 0, end_inclusive: 0 };
+    pub const EMPTY: ValueRange = ValueRange {
+        start_inclusive: 0,
+        end_inclusive: 0,
+    };
 
     /// One value, the commonest case for options.
-    pub const SINGLE: ValueRange = ValueRange { start_inclusive: 1, end_inclusive: 1 };
+    pub const SINGLE: ValueRange = ValueRange {
+        start_inclusive: 1,
+        end_inclusive: 1,
+    };
 
     /// One value or none.
-    pub const OPTIONAL: ValueRange = ValueRange { start_inclusive: 0, end_inclusive: 1 };
+    pub const OPTIONAL: ValueRange = ValueRange {
+        start_inclusive: 0,
+        end_inclusive: 1,
+    };
 
     /// Any number of values.
-    pub const FULL: ValueRange = ValueRange { start_inclusive: 0, end_inclusive: u64::MAX };
+    pub const FULL: ValueRange = ValueRange {
+        start_inclusive: 0,
+        end_inclusive: u64::MAX,
+    };
 
     // from `least` through `most`
     fn raw(least: u64, most: u64) -> Result<ValueRange, RangeFault>
@@ -36,7 +48,10 @@ impl ValueRange {
         if least > most {
             return Err(RangeFault::LeastAboveMost);
         }
-        Ok(ValueRange { start_inclusive: least, end_inclusive: most })
+        Ok(ValueRange {
+            start_inclusive: least,
+            end_inclusive: most,
+        })
     }
 
     /// The fewest values that the argument accepts.
@@ -92,7 +107,11 @@ impl ValueRange {
         ensures value { λ r. ⌜ r ≡ fixed-number (bounds (now (self .entry))) ⌝ }
         ensures means { λ r. ⌜ BySome r ((n : ℕ) → Only (bounds (now (self .entry))) n → ⊥) (λ n. Only (bounds (now (self .entry))) n) ⌝ }
     {
-        if self.is_fixed() { Some(self.start_inclusive) } else { None }
+        if self.is_fixed() {
+            Some(self.start_inclusive)
+        } else {
+            None
+        }
     }
 
     /// Whether another value is accepted after `current`.
@@ -109,7 +128,10 @@ pub impl From<u64> for ValueRange as RangeFromNumber {
     ghost converts = { λ n r. bounds r ≡ fixed n };
 
     fn from(n: u64) -> ValueRange {
-        ValueRange { start_inclusive: n, end_inclusive: n }
+        ValueRange {
+            start_inclusive: n,
+            end_inclusive: n,
+        }
     }
 }
 
@@ -118,7 +140,10 @@ pub impl From<RangeFrom<u64>> for ValueRange as RangeFromOn {
     ghost converts = { λ a r. bounds r ≡ from-on (a .start) };
 
     fn from(a: RangeFrom<u64>) -> ValueRange {
-        ValueRange { start_inclusive: a.start, end_inclusive: u64::MAX }
+        ValueRange {
+            start_inclusive: a.start,
+            end_inclusive: u64::MAX,
+        }
     }
 }
 
@@ -127,7 +152,10 @@ pub impl From<RangeTo<u64>> for ValueRange as RangeUpToBefore {
     ghost converts = { λ b r. bounds r ≡ up-to-before (b .end) };
 
     fn from(b: RangeTo<u64>) -> ValueRange {
-        ValueRange { start_inclusive: 0, end_inclusive: b.end.saturating_sub(1) }
+        ValueRange {
+            start_inclusive: 0,
+            end_inclusive: b.end.saturating_sub(1),
+        }
     }
 }
 
@@ -136,7 +164,10 @@ pub impl From<RangeToInclusive<u64>> for ValueRange as RangeUpTo {
     ghost converts = { λ b r. bounds r ≡ up-to (b .end) };
 
     fn from(b: RangeToInclusive<u64>) -> ValueRange {
-        ValueRange { start_inclusive: 0, end_inclusive: b.end }
+        ValueRange {
+            start_inclusive: 0,
+            end_inclusive: b.end,
+        }
     }
 }
 

@@ -2,8 +2,8 @@ ghost use mathlib.Core.Path.{_≡_};
 ghost use Rattle.form.specs.Shown.{shown, shown-subcommand};
 ghost use Rattle.form.specs.Blank.{arg-named, subcommand-named};
 use super::action::ArgAction;
-use super::range::ValueRange;
 use super::arg_settings::ArgFlags;
+use super::range::ValueRange;
 
 /// An argument's record, as a source shows it: its names are parts of the source.
 #[derive(Clone, Copy)]

@@ -47,8 +47,9 @@ dots-here s j i e h a b = rw (two s j i e h, a, b)
 dots-on : (a b p : ℕ) (cs : List ℕ) → (a ≡ 46 → b ≡ 46 → ⊥) → dots-from p (a ∷ (b ∷ cs)) ≡ dots-from (suc p) (b ∷ cs)
 unfolding dots-from
 dots-on a b p cs ne = elim (cases-eq a 46) [
-    inr na ↦ rw (ne-eqb a 46 na)
-  | inl ea ↦ rw (eq-eqb a 46 ea, ne-eqb b 46 (ne ea)) ]
+  | inr na ↦ rw (ne-eqb a 46 na)
+  | inl ea ↦ rw (eq-eqb a 46 ea, ne-eqb b 46 (ne ea))
+]
 
 pub dots-further : (s : List ℕ) (j i : ℕ) → i ≡ j + 1 → i < length s → (getD s j 0 ≡ 46 → getD s i 0 ≡ 46 → ⊥) → dots-from j (drop j s) ≡ dots-from i (drop i s)
 dots-further s j i e h ne =

@@ -131,16 +131,16 @@ arg-few f n p a h (later r c) e =
 arg-few f n p a h (items rows) e =
     let three = leb-true (length rows) 3 e in
     few-blocks (λ l. length (l .1 a) ≤ 1024) _ 7 3072
-      (λ _ l u. few-any _ 1024 3 (λ k x. few-any _ 3 1 (λ _ r. item-few f p a (l .0) k x r) 0 rows three) 0 (l .1 a) u)
-      0 reference-lists (omega arith) (list-few a h)
+    (λ _ l u. few-any _ 1024 3 (λ k x. few-any _ 3 1 (λ _ r. item-few f p a (l .0) k x r) 0 rows three) 0 (l .1 a) u)
+    0 reference-lists (omega arith) (list-few a h)
 arg-few f n p a h (whole r c) e = one-of _ _ 21504 (omega arith)
 
 -- argument by argument
 by-argument-few : (f : Form) → Fits f → (n : ℕ) (rows : List ArgRow) → length rows ≤ 19 → All (λ r. small r ≡ true) rows → length (section-report f (by-argument n rows)) ≤ 32686080
 by-argument-few f h n rows le ok =
     few-blocks Arg-few _ 80 408576
-      (λ p a u. few-blocks (λ r. small r ≡ true) _ 19 21504 (λ _ r e. arg-few f (h .args) p a u r e) 0 rows le ok)
-      0 (f .args) (h .args) (all-summed arg-items 1024 (f .args) (omega (arith, h .items)))
+    (λ p a u. few-blocks (λ r. small r ≡ true) _ 19 21504 (λ _ r e. arg-few f (h .args) p a u r e) 0 rows le ok)
+    0 (f .args) (h .args) (all-summed arg-items 1024 (f .args) (omega (arith, h .items)))
 
 -- group by group
 abbrev Names-few : Group → GroupRow → Type 0
@@ -158,8 +158,8 @@ group-few f h p g (missing-name r l names known) u = few-any _ 1024 1 (λ i x. o
 by-group-few : (f : Form) → Fits f → length (section-report f (by-group 31 group-rows)) ≤ 81920
 by-group-few f h =
     few-blocks Group-few _ 16 5120
-      (λ p g u. few-blocks (Names-few g) _ 5 1024 (λ _ r e. group-few f h p g r e) 0 group-rows (omega arith) (tt, (tt, (omega arith, (omega arith, (omega arith, tt))))))
-      0 (f .groups) (h .groups) (all-summed group-items 1024 (f .groups) (omega (arith, h .items)))
+    (λ p g u. few-blocks (Names-few g) _ 5 1024 (λ _ r e. group-few f h p g r e) 0 group-rows (omega arith) (tt, (tt, (omega arith, (omega arith, (omega arith, tt))))))
+    0 (f .groups) (h .groups) (all-summed group-items 1024 (f .groups) (omega (arith, h .items)))
 
 -- the flags of owners
 abbrev Owner-few : Owner → Type 0
@@ -168,8 +168,8 @@ Owner-few o = (length (o .long-aliases) ≤ 1024) × (length (o .letter-aliases)
 owners-few : (f : Form) → Fits f → All Owner-few (owners f)
 owners-few f h =
     all-append Owner-few (each of-subcommand 0 (f .subcommands)) (each of-argument 0 (f .args))
-      (all-each Subcommand-few Owner-few of-subcommand (λ n s u. (omega arith, omega arith)) 0 (f .subcommands) (all-summed subcommand-items 1024 (f .subcommands) (omega (arith, h .items))))
-      (all-each Arg-few Owner-few of-argument (λ n a u. (omega arith, omega arith)) 0 (f .args) (all-summed arg-items 1024 (f .args) (omega (arith, h .items))))
+    (all-each Subcommand-few Owner-few of-subcommand (λ n s u. (omega arith, omega arith)) 0 (f .subcommands) (all-summed subcommand-items 1024 (f .subcommands) (omega (arith, h .items))))
+    (all-each Arg-few Owner-few of-argument (λ n a u. (omega arith, omega arith)) 0 (f .args) (all-summed arg-items 1024 (f .args) (omega (arith, h .items))))
 
 length-each : {A X : Type 0} (g : ℕ → A → X) (n : ℕ) (xs : List A) → length (each g n xs) ≡ length xs
 length-each g n [] = refl
@@ -181,12 +181,12 @@ owner-count f h = simp length-append (omega (arith, length-each of-subcommand 0 
 flags-few : {X : Type 0} (same : X → X → Bool) (flags-of : Owner → List (Option X)) (r : Rule) → ((o : Owner) → Owner-few o → length (flags-of o) ≤ 1025) → (os : List Owner) → length os ≤ 112 → All Owner-few os → length (flags-report same flags-of r os) ≤ 13179040000
 flags-few same flags-of r few os le all =
     few-blocks Owner-few _ 112 117670000
-      (λ i o u. few-any _ 1025 114800
-        (λ k x. few-blocks Owner-few _ 112 1025
-          (λ _ w v. few-any _ 1025 1 (λ m y. one _ _) 0 (flags-of w) (few w v))
-          (suc i) (drop (suc i) os) (simp length-drop (omega arith)) (all-drop Owner-few (suc i) os all))
-        0 (flags-of o) (few o u))
-      0 os le all
+    (λ i o u. few-any _ 1025 114800
+    (λ k x. few-blocks Owner-few _ 112 1025
+    (λ _ w v. few-any _ 1025 1 (λ m y. one _ _) 0 (flags-of w) (few w v))
+    (suc i) (drop (suc i) os) (simp length-drop (omega arith)) (all-drop Owner-few (suc i) os all))
+    0 (flags-of o) (few o u))
+    0 os le all
 
 flags-length : {X : Type 0} (own : Option X) (aliases : List X) → length aliases ≤ 1024 → length (flags own aliases) ≤ 1025
 flags-length {X} o aliases h = let e : length (map (λ (x : X). Some x) aliases) ≡ length aliases = simp length-map in omega arith
@@ -195,12 +195,12 @@ flags-length {X} o aliases h = let e : length (map (λ (x : X). Some x) aliases)
 names-few : (ss : List Subcommand) → length ss ≤ 32 → All Subcommand-few ss → length (names-report ss) ≤ 1075840000
 names-few ss le all =
     few-blocks Subcommand-few _ 32 33620000
-      (λ p s u. few-any _ 1025 32800
-        (λ k x. few-blocks Subcommand-few _ 32 1025
-          (λ q t v. few-any _ 1025 1 (λ m y. one _ _) 0 (called t) (omega arith))
-          0 (take (suc p) ss) (simp length-take (omega arith)) (all-take Subcommand-few (suc p) ss all))
-        0 (called s) (omega arith))
-      0 ss le all
+    (λ p s u. few-any _ 1025 32800
+    (λ k x. few-blocks Subcommand-few _ 32 1025
+    (λ q t v. few-any _ 1025 1 (λ m y. one _ _) 0 (called t) (omega arith))
+    0 (take (suc p) ss) (simp length-take (omega arith)) (all-take Subcommand-few (suc p) ss all))
+    0 (called s) (omega arith))
+    0 ss le all
 
 -- the two ends, and the positions
 both-few : (o q : Option ℕ) → length (both-ends o q) ≤ 1
@@ -235,7 +235,7 @@ length-down (suc n) = ap suc (length-down n)
 positions-few : (f : Form) → Fits f → length (section-report f by-position) ≤ 80
 positions-few f h =
     few-any _ 80 1 (λ i n. position-few f n (first-at n 0 (f .args))) 0 (down (position-count f))
-      (omega (arith, length-down (position-count f), indices-few (f .args), h .args))
+    (omega (arith, length-down (position-count f), indices-few (f .args), h .args))
 
 abbrev bound : ℕ
 bound = 13179040000
@@ -243,26 +243,61 @@ bound = 13179040000
 all-few : (f : Form) → Fits f → All (λ s. length (section-report f s) ≤ bound) sections
 all-few f h =
     let subs = all-summed subcommand-items 1024 (f .subcommands) (omega (arith, h .items)) in
-    let flags-in = owners-few f h in
-      (one-of _ _ bound (omega arith)
-    , (wide _ 32686080 bound (by-argument-few f h 2 _ (omega arith) (refl, tt)) (omega arith)
-    , (wide _ 32 bound (few-any _ 32 1 (λ i s. one _ _) 0 (f .subcommands) (h .subcommands)) (omega arith)
-    , (wide _ 32686080 bound (by-argument-few f h 4 arg-rows (omega arith) (refl, (refl, (refl, (refl, (refl, (refl, (refl, (refl, (refl, (refl, (refl, (refl, (refl, (refl, (refl, (refl, (refl, (refl, (refl, tt)))))))))))))))))))) (omega arith)
-    , (wide _ 81920 bound (by-group-few f h) (omega arith)
-    , (flags-few sameBytes long-flags _ (λ o u. flags-length (o .long) (o .long-aliases) (u .0)) (owners f) (owner-count f h) flags-in
-    , (flags-few eqb letter-flags _ (λ o u. flags-length (o .letter) (o .letter-aliases) (u .1)) (owners f) (owner-count f h) flags-in
-    , (wide _ 1075840000 bound (names-few (f .subcommands) (h .subcommands) subs) (omega arith)
-    , (one-of _ _ bound (omega arith)
-    , (wide _ 32686080 bound (by-argument-few f h 41 trailing-rows (omega arith) (refl, (refl, (refl, tt)))) (omega arith)
-    , (wide _ 1 bound (at-ends-few f OpenBeforeOptional open-before-optional) (omega arith)
-    , (wide _ 1 bound (at-ends-few f MultipleElsewhere multiple-low) (omega arith)
-    , (wide _ 1 bound (at-ends-few f TooManyMultiple too-many-wide) (omega arith)
-    , (wide _ 80 bound (positions-few f h) (omega arith)
-    , (wide _ 32686080 bound (by-argument-few f h 48 _ (omega arith) (refl, tt)) (omega arith)
-    , (wide _ 32686080 bound (by-argument-few f h 49 _ (omega arith) (refl, tt)) (omega arith)
-    , (one-of _ _ bound (omega arith)
-    , (one-of _ _ bound (omega arith)
-    , tt))))))))))))))))))
+    let flags-in = owners-few f h in (
+      one-of _ _ bound (omega arith),
+      (
+        wide _ 32686080 bound (by-argument-few f h 2 _ (omega arith) (refl, tt)) (omega arith),
+        (
+          wide _ 32 bound (few-any _ 32 1 (λ i s. one _ _) 0 (f .subcommands) (h .subcommands)) (omega arith),
+          (
+            wide _ 32686080 bound (by-argument-few f h 4 arg-rows (omega arith) (refl, (refl, (refl, (refl, (refl, (refl, (refl, (refl, (refl, (refl, (refl, (refl, (refl, (refl, (refl, (refl, (refl, (refl, (refl, tt)))))))))))))))))))) (omega arith),
+            (
+              wide _ 81920 bound (by-group-few f h) (omega arith),
+              (
+                flags-few sameBytes long-flags _ (λ o u. flags-length (o .long) (o .long-aliases) (u .0)) (owners f) (owner-count f h) flags-in,
+                (
+                  flags-few eqb letter-flags _ (λ o u. flags-length (o .letter) (o .letter-aliases) (u .1)) (owners f) (owner-count f h) flags-in,
+                  (
+                    wide _ 1075840000 bound (names-few (f .subcommands) (h .subcommands) subs) (omega arith),
+                    (
+                      one-of _ _ bound (omega arith),
+                      (
+                        wide _ 32686080 bound (by-argument-few f h 41 trailing-rows (omega arith) (refl, (refl, (refl, tt)))) (omega arith),
+                        (
+                          wide _ 1 bound (at-ends-few f OpenBeforeOptional open-before-optional) (omega arith),
+                          (
+                            wide _ 1 bound (at-ends-few f MultipleElsewhere multiple-low) (omega arith),
+                            (
+                              wide _ 1 bound (at-ends-few f TooManyMultiple too-many-wide) (omega arith),
+                              (
+                                wide _ 80 bound (positions-few f h) (omega arith),
+                                (
+                                  wide _ 32686080 bound (by-argument-few f h 48 _ (omega arith) (refl, tt)) (omega arith),
+                                  (
+                                    wide _ 32686080 bound (by-argument-few f h 49 _ (omega arith) (refl, tt)) (omega arith),
+                                    (
+                                      one-of _ _ bound (omega arith),
+                                      (
+                                        one-of _ _ bound (omega arith),
+                                        tt,
+                                      ),
+                                    ),
+                                  ),
+                                ),
+                              ),
+                            ),
+                          ),
+                        ),
+                      ),
+                    ),
+                  ),
+                ),
+              ),
+            ),
+          ),
+        ),
+      ),
+    )
 
 pub few : (f : Form) → Fits f → length (breaches f) < 2 ^ 64
 unfolding breaches

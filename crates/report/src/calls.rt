@@ -48,7 +48,10 @@ fn count<F: FormSource>(form: &F) -> usize
 fn fill<F: FormSource>(form: &F, list: &mut [Breach])
     ensures { λ _. ⌜ now (list .exit) ≡ fold put (now (list .entry), 0) (breaches (F·FormSource .form (now (form .entry)))) .0 ⌝ }
 {
-    let mut filled = Fill { room: list, count: 0 };
+    let mut filled = Fill {
+        room: list,
+        count: 0,
+    };
     let _ = survey(form, &mut filled);
 }
 

@@ -40,7 +40,6 @@ pub data Breaks (f : Form) : Breach → Type 0 where
   rule-2 : (p : ℕ) (a : Arg) → Stands (f .args) p a → a .action ≡ Version → Form-lacks f HasVersion → Breaks f (of-one VersionActionWithoutVersion (argument p))
   -- a subcommand's long flag begins with a hyphen
   rule-3 : (p : ℕ) (s : Subcommand) (x : Name) → Stands (f .subcommands) p s → s .long ≡ Some x → Dashed x → Breaks f (of-one LongFlagDash (subcommand p))
-
   -- an argument conflicts with itself
   rule-4 : (p : ℕ) (a : Arg) (k : ℕ) → Stands (f .args) p a → Stands (a .conflicts) k (a .id) → Breaks f (of-item ConflictsWithItself (argument p) Conflicts k)
   -- it takes more values than its action allows
@@ -83,7 +82,6 @@ pub data Breaks (f : Form) : Breach → Type 0 where
   rule-27 : (p : ℕ) (a : Arg) → Stands (f .args) p a → Has a Last → Given (a .letter) → Breaks f (of-one LastWithLetter (argument p))
   -- it is required and global
   rule-28 : (p : ℕ) (a : Arg) → Stands (f .args) p a → Has a Required → Has a Global → Breaks f (of-one RequiredGlobal (argument p))
-
   -- a later group has the same id
   rule-31 : (p q : ℕ) (g h : Group) → p < q → Stands (f .groups) p g → Stands (f .groups) q h → g .id ≡ h .id → Breaks f (of-two SameGroupId (group p) (group q))
   -- an argument has the group's id
@@ -94,7 +92,6 @@ pub data Breaks (f : Form) : Breach → Type 0 where
   rule-34 : (p : ℕ) (g : Group) (k : ℕ) (x : Name) → Stands (f .groups) p g → Stands (g .requires) k x → Missing f x → Breaks f (of-item MissingGroupRequirement (group p) GroupRequires k)
   -- nor is what it conflicts with
   rule-35 : (p : ℕ) (g : Group) (k : ℕ) (x : Name) → Stands (f .groups) p g → Stands (g .conflicts) k x → Missing f x → Breaks f (of-item MissingGroupConflict (group p) GroupConflicts k)
-
   -- two owners that differ have the same long flag
   rule-36 : (i j : ℕ) (o w : Owner) (k m : ℕ) (x : Name) → i < j → Stands (owners f) i o → Stands (owners f) j w → Flag (o .long) (o .long-aliases) k x → Flag (w .long) (w .long-aliases) m x → Differ o w → Breaks f (of-flags SameLongFlag (o .entry) k (w .entry) m)
   -- the same letter
@@ -103,7 +100,6 @@ pub data Breaks (f : Form) : Breach → Type 0 where
   rule-38 : (p q m : ℕ) (x : Name) → Called f p 0 x → Called f q m x → Earlier q m p 0 → Breaks f (of-flags SubcommandNameTaken (subcommand p) 0 (subcommand q) m)
   -- its alias is
   rule-39 : (p k q m : ℕ) (x : Name) → Called f p (suc k) x → Called f q m x → Earlier q m p (suc k) → Breaks f (of-flags SubcommandAliasTaken (subcommand p) (suc k) (subcommand q) m)
-
   -- the highest position key is not the number of position keys
   rule-40 : (h : ℕ) → Highest f h → (h ≡ position-count f → ⊥) → Breaks f (of-form PositionsWithGaps)
   -- an argument at the highest position is trailing and last

@@ -60,16 +60,16 @@ list-or-0 (Some l) = list-number l
 abbrev pub rank : Form → Breach → List ℕ
 rank f b =
     section (rule-number (b .rule))
-  ∷ fall f b
-  ∷ spot f (rule-number (b .rule)) (b .first)
-  ∷ early b
-  ∷ phase (rule-number (b .rule))
-  ∷ spot f (rule-number (b .rule)) (b .second)
-  ∷ b .other
-  ∷ list-or-0 (b .list)
-  ∷ b .item
-  ∷ rule-number (b .rule)
-  ∷ []
+    ∷ fall f b
+    ∷ spot f (rule-number (b .rule)) (b .first)
+    ∷ early b
+    ∷ phase (rule-number (b .rule))
+    ∷ spot f (rule-number (b .rule)) (b .second)
+    ∷ b .other
+    ∷ list-or-0 (b .list)
+    ∷ b .item
+    ∷ rule-number (b .rule)
+    ∷ []
 
 -- bs lists the breaches of f: every member is a breach, every breach is a member, ranks ascend strictly, so that each stands exactly once
 abbrev pub Lists : Form → List Breach → Type 0

@@ -303,13 +303,13 @@ pub data Section : Type 0 where
 abbrev pub reference-lists : List (ItemList × (Arg → List Name))
 reference-lists =
     (Requires, λ a. a .requires)
-  ∷ (RIfs, λ a. a .r-ifs)
-  ∷ (RIfsAll, λ a. a .r-ifs-all)
-  ∷ (RUnless, λ a. a .r-unless)
-  ∷ (RUnlessAll, λ a. a .r-unless-all)
-  ∷ (Conflicts, λ a. a .conflicts)
-  ∷ (Overrides, λ a. a .overrides)
-  ∷ []
+    ∷ (RIfs, λ a. a .r-ifs)
+    ∷ (RIfsAll, λ a. a .r-ifs-all)
+    ∷ (RUnless, λ a. a .r-unless)
+    ∷ (RUnlessAll, λ a. a .r-unless-all)
+    ∷ (Conflicts, λ a. a .conflicts)
+    ∷ (Overrides, λ a. a .overrides)
+    ∷ []
 
 abbrev pub item-rows : List ItemRow
 item-rows = own-item RequiresItself requires-itself ∷ own-item RequiredConditionally required-conditionally ∷ missing-item MissingReference ∷ []
@@ -317,34 +317,34 @@ item-rows = own-item RequiresItself requires-itself ∷ own-item RequiredConditi
 abbrev pub arg-rows : List ArgRow
 arg-rows =
     own-conflict ConflictsWithItself names-itself
-  ∷ own TooManyValues too-many-values
-  ∷ own IndexWithFlag index-with-flag
-  ∷ own IndexZero index-zero
-  ∷ own IndexWithoutValue index-without-value
-  ∷ own PositionalWithoutIndex positional-without-index
-  ∷ own RangeUnset range-unset
-  ∷ own EqualsWithMany equals-with-many
-  ∷ own-bit SettingWithoutValue setting-without-value
-  ∷ whole MulticallArgument multicall-argument
-  ∷ own LongNameDash long-name-dash
-  ∷ later SameId same-id
-  ∷ later SameLongName same-long-name
-  ∷ later SameLetter same-letter
-  ∷ later SameIndex same-index
-  ∷ items item-rows
-  ∷ own LastWithLong last-with-long
-  ∷ own LastWithLetter last-with-letter
-  ∷ own RequiredGlobal required-global
-  ∷ []
+    ∷ own TooManyValues too-many-values
+    ∷ own IndexWithFlag index-with-flag
+    ∷ own IndexZero index-zero
+    ∷ own IndexWithoutValue index-without-value
+    ∷ own PositionalWithoutIndex positional-without-index
+    ∷ own RangeUnset range-unset
+    ∷ own EqualsWithMany equals-with-many
+    ∷ own-bit SettingWithoutValue setting-without-value
+    ∷ whole MulticallArgument multicall-argument
+    ∷ own LongNameDash long-name-dash
+    ∷ later SameId same-id
+    ∷ later SameLongName same-long-name
+    ∷ later SameLetter same-letter
+    ∷ later SameIndex same-index
+    ∷ items item-rows
+    ∷ own LastWithLong last-with-long
+    ∷ own LastWithLetter last-with-letter
+    ∷ own RequiredGlobal required-global
+    ∷ []
 
 abbrev pub group-rows : List GroupRow
 group-rows =
     later-group SameGroupId same-group-id
-  ∷ with-argument GroupIdOfArgument id-of-argument
-  ∷ missing-name MissingMember Members (λ g. g .members) arg-ids
-  ∷ missing-name MissingGroupRequirement GroupRequires (λ g. g .requires) ids
-  ∷ missing-name MissingGroupConflict GroupConflicts (λ g. g .conflicts) ids
-  ∷ []
+    ∷ with-argument GroupIdOfArgument id-of-argument
+    ∷ missing-name MissingMember Members (λ g. g .members) arg-ids
+    ∷ missing-name MissingGroupRequirement GroupRequires (λ g. g .requires) ids
+    ∷ missing-name MissingGroupConflict GroupConflicts (λ g. g .conflicts) ids
+    ∷ []
 
 abbrev pub trailing-rows : List ArgRow
 trailing-rows = whole TrailingLast trailing-last ∷ whole TrailingNotMultiple trailing-not-multiple ∷ whole TrailingElsewhere trailing-elsewhere ∷ []
@@ -353,21 +353,21 @@ trailing-rows = whole TrailingLast trailing-last ∷ whole TrailingNotMultiple t
 abbrev pub sections : List Section
 sections =
     of-the-form PropagateWithoutVersion propagate-without-version
-  ∷ by-argument 2 (whole VersionActionWithoutVersion version-without-version ∷ [])
-  ∷ by-subcommand LongFlagDash (λ s. dashed (s .long))
-  ∷ by-argument 4 arg-rows
-  ∷ by-group 31 group-rows
-  ∷ by-long-flag SameLongFlag
-  ∷ by-letter-flag SameLetterFlag
-  ∷ by-subcommand-name
-  ∷ of-the-form PositionsWithGaps positions-with-gaps
-  ∷ by-argument 41 trailing-rows
-  ∷ at-ends OpenBeforeOptional open-before-optional
-  ∷ at-ends MultipleElsewhere multiple-low
-  ∷ at-ends TooManyMultiple too-many-wide
-  ∷ by-position
-  ∷ by-argument 48 (later TwoLast two-last ∷ [])
-  ∷ by-argument 49 (whole RequiredLastWithSubcommands required-last ∷ [])
-  ∷ of-the-form MulticallWithoutBinaryName multicall-without-name
-  ∷ of-the-form FormCut (λ f. f .cut)
-  ∷ []
+    ∷ by-argument 2 (whole VersionActionWithoutVersion version-without-version ∷ [])
+    ∷ by-subcommand LongFlagDash (λ s. dashed (s .long))
+    ∷ by-argument 4 arg-rows
+    ∷ by-group 31 group-rows
+    ∷ by-long-flag SameLongFlag
+    ∷ by-letter-flag SameLetterFlag
+    ∷ by-subcommand-name
+    ∷ of-the-form PositionsWithGaps positions-with-gaps
+    ∷ by-argument 41 trailing-rows
+    ∷ at-ends OpenBeforeOptional open-before-optional
+    ∷ at-ends MultipleElsewhere multiple-low
+    ∷ at-ends TooManyMultiple too-many-wide
+    ∷ by-position
+    ∷ by-argument 48 (later TwoLast two-last ∷ [])
+    ∷ by-argument 49 (whole RequiredLastWithSubcommands required-last ∷ [])
+    ∷ of-the-form MulticallWithoutBinaryName multicall-without-name
+    ∷ of-the-form FormCut (λ f. f .cut)
+    ∷ []

@@ -32,4 +32,4 @@ part-report f part.Cut = section-report f (of-the-form FormCut (λ g. g .cut))
 abbrev pub parts : List Part
 parts =
     part.Propagation ∷ part.Versions ∷ part.DashedFlags ∷ part.Arguments ∷ part.Groups ∷ part.LongFlags ∷ part.LetterFlags ∷ part.SubcommandNames
-  ∷ part.Gaps ∷ part.Trailing ∷ part.Ends ∷ part.Positions ∷ part.TwoLast ∷ part.RequiredLast ∷ part.Multicall ∷ part.Cut ∷ []
+    ∷ part.Gaps ∷ part.Trailing ∷ part.Ends ∷ part.Positions ∷ part.TwoLast ∷ part.RequiredLast ∷ part.Multicall ∷ part.Cut ∷ []

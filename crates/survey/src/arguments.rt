@@ -30,7 +30,7 @@ const REFERENCES: [ItemList; 7] = [
 ];
 
 /// Offers what each argument breaks, and each item of its lists of references.
-pub fn survey_arguments<F: FormSource, S: Sink>(form: &F, sink: &mut S) -> bool
+pub(crate) fn survey_arguments<F: FormSource, S: Sink>(form: &F, sink: &mut S) -> bool
     ensures took { λ _. ⌜ S·Sink .after (now (sink .entry)) (section-report (F·FormSource .form (now (form .entry))) (by-argument 4 arg-rows)) (now (sink .exit)) ⌝ }
     ensures goes { λ r. ⌜ r ≡ not (S·Sink .full (now (sink .exit))) ⌝ }
 {

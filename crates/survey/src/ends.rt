@@ -152,7 +152,7 @@ fn offer_ends<F: FormSource, S: Sink>(form: &F, last: usize, before: usize, sink
 }
 
 /// Offers what the two highest positions break, where a multiple argument stands elsewhere than at the highest.
-pub fn survey_ends<F: FormSource, S: Sink>(form: &F, sink: &mut S) -> bool
+pub(crate) fn survey_ends<F: FormSource, S: Sink>(form: &F, sink: &mut S) -> bool
     ensures took { λ _. ⌜ S·Sink .after (now (sink .entry)) (ends-report (F·FormSource .form (now (form .entry)))) (now (sink .exit)) ⌝ }
     ensures goes { λ r. ⌜ r ≡ not (S·Sink .full (now (sink .exit))) ⌝ }
 {

@@ -170,14 +170,14 @@ pub impl<'a, F: FormSource> FlagKind for LetterFlags<'a, F> as LetterFlagKind {
 }
 
 /// How many flags an owner has, its own counted even if it has none.
-pub fn flag_count<K: FlagKind>(kind: &K, owner: FlagOwner) -> usize
+pub(crate) fn flag_count<K: FlagKind>(kind: &K, owner: FlagOwner) -> usize
     ensures { λ r. ⌜ r ≡ length (flags-in (K·FlagKind .own) (K·FlagKind .aliases) (owner-in (K·FlagKind .form (now (kind .entry))) owner)) ⌝ }
 {
     1 + kind.alias_count(owner)
 }
 
 /// A flag of an owner by its number: 0 is its own, an alias is 1 + its place.
-pub fn flag<K: FlagKind>(kind: &K, owner: FlagOwner, number: usize) -> Option<K::Flag>
+pub(crate) fn flag<K: FlagKind>(kind: &K, owner: FlagOwner, number: usize) -> Option<K::Flag>
     ensures alike { λ r. ⌜ ((x : Option K·Flag) → same-if (Flag·Same .same) x r ≡ same-if (K·FlagKind .same) (mapped (K·FlagKind .plain) x) (mapped (K·FlagKind .plain) r)) ⌝ }
     ensures value { λ r. ⌜ mapped (K·FlagKind .plain) r ≡ getD (flags-in (K·FlagKind .own) (K·FlagKind .aliases) (owner-in (K·FlagKind .form (now (kind .entry))) owner)) number None ⌝ }
 {

@@ -31,14 +31,14 @@ impl FlagOwner {
 }
 
 /// How many owners of flags the form has.
-pub fn owner_count<F: FormSource>(form: &F) -> usize
+pub(crate) fn owner_count<F: FormSource>(form: &F) -> usize
     ensures { λ r. ⌜ r ≡ length (owners (F·FormSource .form (now (form .entry)))) ⌝ }
 {
     form.subcommand_count() + form.arg_count()
 }
 
 /// An owner by its number: the subcommands come first, then the arguments.
-pub fn owner_at<F: FormSource>(form: &F, number: usize) -> FlagOwner
+pub(crate) fn owner_at<F: FormSource>(form: &F, number: usize) -> FlagOwner
     ensures { λ r. ⌜ owner-in (F·FormSource .form (now (form .entry))) r ≡ owner-numbered (F·FormSource .form (now (form .entry))) number ⌝ }
 {
     let subcommands = form.subcommand_count();
@@ -60,7 +60,7 @@ fn owner_id<F: FormSource>(form: &F, owner: FlagOwner) -> &[u8]
 }
 
 /// Whether the owners differ in kind or in id.
-pub fn differ<F: FormSource>(form: &F, one: FlagOwner, other: FlagOwner) -> bool
+pub(crate) fn differ<F: FormSource>(form: &F, one: FlagOwner, other: FlagOwner) -> bool
     ensures { λ r. ⌜ r ≡ rows.differ (owner-in (F·FormSource .form (now (form .entry))) one) (owner-in (F·FormSource .form (now (form .entry))) other) ⌝ }
 {
     match (one, other) {

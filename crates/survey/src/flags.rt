@@ -140,7 +140,7 @@ fn survey_flags<K: FlagKind, S: Sink>(kind: &K, rule: Rule, sink: &mut S) -> boo
 }
 
 /// Offers the long flags that two different owners have.
-pub fn survey_long_flags<F: FormSource, S: Sink>(form: &F, sink: &mut S) -> bool
+pub(crate) fn survey_long_flags<F: FormSource, S: Sink>(form: &F, sink: &mut S) -> bool
     ensures took { λ _. ⌜ S·Sink .after (now (sink .entry)) (section-report (F·FormSource .form (now (form .entry))) (by-long-flag SameLongFlag)) (now (sink .exit)) ⌝ }
     ensures goes { λ r. ⌜ r ≡ not (S·Sink .full (now (sink .exit))) ⌝ }
 {
@@ -148,7 +148,7 @@ pub fn survey_long_flags<F: FormSource, S: Sink>(form: &F, sink: &mut S) -> bool
 }
 
 /// Offers the letter flags that two different owners have.
-pub fn survey_letter_flags<F: FormSource, S: Sink>(form: &F, sink: &mut S) -> bool
+pub(crate) fn survey_letter_flags<F: FormSource, S: Sink>(form: &F, sink: &mut S) -> bool
     ensures took { λ _. ⌜ S·Sink .after (now (sink .entry)) (section-report (F·FormSource .form (now (form .entry))) (by-letter-flag SameLetterFlag)) (now (sink .exit)) ⌝ }
     ensures goes { λ r. ⌜ r ≡ not (S·Sink .full (now (sink .exit))) ⌝ }
 {

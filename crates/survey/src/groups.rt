@@ -47,7 +47,7 @@ const CONFLICTS: Names = Names {
 };
 
 /// Offers what each group breaks: its id is taken, or an item of its lists names nothing.
-pub fn survey_groups<F: FormSource, S: Sink>(form: &F, sink: &mut S) -> bool
+pub(crate) fn survey_groups<F: FormSource, S: Sink>(form: &F, sink: &mut S) -> bool
     ensures took { λ _. ⌜ S·Sink .after (now (sink .entry)) (section-report (F·FormSource .form (now (form .entry))) (rows.by-group 31 rows.group-rows)) (now (sink .exit)) ⌝ }
     ensures goes { λ r. ⌜ r ≡ not (S·Sink .full (now (sink .exit))) ⌝ }
 {

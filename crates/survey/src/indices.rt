@@ -11,7 +11,7 @@ pub struct Positions {
 }
 
 /// The indices of the form, counted.
-pub fn count_positions<F: FormSource>(form: &F) -> Positions
+pub(crate) fn count_positions<F: FormSource>(form: &F) -> Positions
     ensures count { λ r. ⌜ r .count ≡ words.position-count (F·FormSource .form (now (form .entry))) ⌝ }
     ensures highest { λ r. ⌜ r .highest ≡ rows.highest (F·FormSource .form (now (form .entry))) ⌝ }
 {

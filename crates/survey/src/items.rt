@@ -23,7 +23,7 @@ use form::ItemList;
 use rules::Rule;
 
 /// Offers each item of the argument's conflicts that is its own id.
-pub fn offer_own_conflicts<F: FormSource, S: Sink>(
+pub(crate) fn offer_own_conflicts<F: FormSource, S: Sink>(
     form: &F,
     place: usize,
     arg: &ArgView<'_>,
@@ -62,7 +62,7 @@ fn required_conditionally(arg: &ArgView<'_>, list: ItemList) -> bool
 }
 
 /// Offers what an item of a list of the argument breaks.
-pub fn offer_item_rules<F: FormSource, S: Sink>(
+pub(crate) fn offer_item_rules<F: FormSource, S: Sink>(
     form: &F,
     place: usize,
     arg: &ArgView<'_>,

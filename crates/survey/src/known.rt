@@ -30,7 +30,7 @@ impl Known {
 }
 
 /// Whether an argument has the name for its id.
-pub fn names_argument<F: FormSource>(form: &F, name: &[u8]) -> bool
+pub(crate) fn names_argument<F: FormSource>(form: &F, name: &[u8]) -> bool
     ensures { λ r. ⌜ r ≡ some (sameBytes (now (name .entry))) (arg-ids (F·FormSource .form (now (form .entry)))) ⌝ }
 {
     for place in 0..form.arg_count() {
@@ -42,7 +42,7 @@ pub fn names_argument<F: FormSource>(form: &F, name: &[u8]) -> bool
 }
 
 /// Whether a group has the name for its id.
-pub fn names_group<F: FormSource>(form: &F, name: &[u8]) -> bool
+pub(crate) fn names_group<F: FormSource>(form: &F, name: &[u8]) -> bool
     ensures { λ r. ⌜ r ≡ some (sameBytes (now (name .entry))) (map (λ g. g .id) (F·FormSource .form (now (form .entry)) .groups)) ⌝ }
 {
     for place in 0..form.group_count() {
@@ -54,7 +54,7 @@ pub fn names_group<F: FormSource>(form: &F, name: &[u8]) -> bool
 }
 
 /// Whether an argument or a group has the name for its id.
-pub fn names_entry<F: FormSource>(form: &F, name: &[u8]) -> bool
+pub(crate) fn names_entry<F: FormSource>(form: &F, name: &[u8]) -> bool
     ensures { λ r. ⌜ r ≡ some (sameBytes (now (name .entry))) (ids (F·FormSource .form (now (form .entry)))) ⌝ }
 {
     names_argument(form, name) || names_group(form, name)

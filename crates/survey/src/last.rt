@@ -25,7 +25,7 @@ use form::FormSource;
 use rules::Rule;
 
 /// Offers each two arguments that are positional and last.
-pub fn survey_two_last<F: FormSource, S: Sink>(form: &F, sink: &mut S) -> bool
+pub(crate) fn survey_two_last<F: FormSource, S: Sink>(form: &F, sink: &mut S) -> bool
     ensures took { λ _. ⌜ S·Sink .after (now (sink .entry)) (section-report (F·FormSource .form (now (form .entry))) (by-argument 48 (later TwoLast two-last ∷ []))) (now (sink .exit)) ⌝ }
     ensures goes { λ r. ⌜ r ≡ not (S·Sink .full (now (sink .exit))) ⌝ }
 {
@@ -70,7 +70,7 @@ impl ArgRules for RequiredLastRules as RequiredLastArgRules {
 }
 
 /// Offers each positional argument that is last and required, beside subcommands.
-pub fn survey_required_last<F: FormSource, S: Sink>(form: &F, sink: &mut S) -> bool
+pub(crate) fn survey_required_last<F: FormSource, S: Sink>(form: &F, sink: &mut S) -> bool
     ensures took { λ _. ⌜ S·Sink .after (now (sink .entry)) (section-report (F·FormSource .form (now (form .entry))) (by-argument 49 (whole RequiredLastWithSubcommands required-last ∷ []))) (now (sink .exit)) ⌝ }
     ensures goes { λ r. ⌜ r ≡ not (S·Sink .full (now (sink .exit))) ⌝ }
 {

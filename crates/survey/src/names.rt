@@ -147,7 +147,7 @@ fn offer_names<F: FormSource, S: Sink>(form: &F, later: usize, sink: &mut S) -> 
 }
 
 /// Offers the names of subcommands that an earlier name takes already.
-pub fn survey_subcommand_names<F: FormSource, S: Sink>(form: &F, sink: &mut S) -> bool
+pub(crate) fn survey_subcommand_names<F: FormSource, S: Sink>(form: &F, sink: &mut S) -> bool
     ensures took { λ _. ⌜ S·Sink .after (now (sink .entry)) (section-report (F·FormSource .form (now (form .entry))) by-subcommand-name) (now (sink .exit)) ⌝ }
     ensures goes { λ r. ⌜ r ≡ not (S·Sink .full (now (sink .exit))) ⌝ }
 {

@@ -9,7 +9,7 @@ use rules::Entry;
 use rules::Rule;
 
 /// Offers the breach if its test came out true.
-pub fn offer_if<S: Sink>(broken: bool, breach: Breach, sink: &mut S) -> bool
+pub(crate) fn offer_if<S: Sink>(broken: bool, breach: Breach, sink: &mut S) -> bool
     ensures took { λ _. ⌜ S·Sink .after (now (sink .entry)) (when broken breach) (now (sink .exit)) ⌝ }
     ensures goes { λ r. ⌜ r ≡ not (S·Sink .full (now (sink .exit))) ⌝ }
 {
@@ -21,7 +21,7 @@ pub fn offer_if<S: Sink>(broken: bool, breach: Breach, sink: &mut S) -> bool
 }
 
 /// Offers the rule of each test that came out true, as broken by its owner.
-pub fn offer_tests<S: Sink>(owner: Entry, tests: &[(bool, Rule)], sink: &mut S) -> bool
+pub(crate) fn offer_tests<S: Sink>(owner: Entry, tests: &[(bool, Rule)], sink: &mut S) -> bool
     ensures took { λ _. ⌜ S·Sink .after (now (sink .entry)) (tests-told owner (now (tests .entry))) (now (sink .exit)) ⌝ }
     ensures goes { λ r. ⌜ r ≡ not (S·Sink .full (now (sink .exit))) ⌝ }
 {

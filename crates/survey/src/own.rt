@@ -13,7 +13,7 @@ use form::FormSource;
 use rules::Rule;
 
 /// Offers what the argument breaks of the rules on its index and values.
-pub fn offer_value_rules<S: Sink>(place: usize, arg: &ArgView<'_>, sink: &mut S) -> bool
+pub(crate) fn offer_value_rules<S: Sink>(place: usize, arg: &ArgView<'_>, sink: &mut S) -> bool
     ensures took { λ _. ⌜ ((f : Form) → Shows f place (now (arg .entry)) → S·Sink .after (now (sink .entry)) (rows-told f place value-rows) (now (sink .exit))) ⌝ }
     ensures goes { λ r. ⌜ r ≡ not (S·Sink .full (now (sink .exit))) ⌝ }
 {
@@ -33,7 +33,7 @@ pub fn offer_value_rules<S: Sink>(place: usize, arg: &ArgView<'_>, sink: &mut S)
 }
 
 /// Offers what the argument breaks of the rules on multicall forms and on long names.
-pub fn offer_name_rules<F: FormSource, S: Sink>(
+pub(crate) fn offer_name_rules<F: FormSource, S: Sink>(
     form: &F,
     place: usize,
     arg: &ArgView<'_>,
@@ -54,7 +54,7 @@ pub fn offer_name_rules<F: FormSource, S: Sink>(
 }
 
 /// Offers what the argument breaks of the rules on last and required arguments.
-pub fn offer_after_rules<S: Sink>(place: usize, arg: &ArgView<'_>, sink: &mut S) -> bool
+pub(crate) fn offer_after_rules<S: Sink>(place: usize, arg: &ArgView<'_>, sink: &mut S) -> bool
     ensures took { λ _. ⌜ ((f : Form) → Shows f place (now (arg .entry)) → S·Sink .after (now (sink .entry)) (rows-told f place after-rows) (now (sink .exit))) ⌝ }
     ensures goes { λ r. ⌜ r ≡ not (S·Sink .full (now (sink .exit))) ⌝ }
 {

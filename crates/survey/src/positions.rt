@@ -25,7 +25,7 @@ fn is_at(arg: &ArgView<'_>, position: usize) -> bool
 }
 
 /// The place of the first argument of the position.
-pub fn first_at<F: FormSource>(form: &F, position: usize) -> Option<usize>
+pub(crate) fn first_at<F: FormSource>(form: &F, position: usize) -> Option<usize>
     ensures { λ r. ⌜ r ≡ rows.first-at position 0 (F·FormSource .form (now (form .entry)) .args) ⌝ }
 {
     for place in 0..form.arg_count() {
@@ -44,7 +44,7 @@ fn is_settled(arg: &ArgView<'_>) -> bool
 }
 
 /// Offers the optional arguments that stand below a settled position, from the highest position down to 1.
-pub fn survey_positions<F: FormSource, S: Sink>(form: &F, sink: &mut S) -> bool
+pub(crate) fn survey_positions<F: FormSource, S: Sink>(form: &F, sink: &mut S) -> bool
     ensures took { λ _. ⌜ S·Sink .after (now (sink .entry)) (section-report (F·FormSource .form (now (form .entry))) rows.by-position) (now (sink .exit)) ⌝ }
     ensures goes { λ r. ⌜ r ≡ not (S·Sink .full (now (sink .exit))) ⌝ }
 {

@@ -12,7 +12,7 @@ use form::FormSource;
 use rules::Rule;
 
 /// Offers each subcommand whose long flag begins with a hyphen.
-pub fn survey_dashed_flags<F: FormSource, S: Sink>(form: &F, sink: &mut S) -> bool
+pub(crate) fn survey_dashed_flags<F: FormSource, S: Sink>(form: &F, sink: &mut S) -> bool
     ensures took { λ _. ⌜ S·Sink .after (now (sink .entry)) (section-report (F·FormSource .form (now (form .entry))) (by-subcommand LongFlagDash (λ s. dashed (s .long)))) (now (sink .exit)) ⌝ }
     ensures goes { λ r. ⌜ r ≡ not (S·Sink .full (now (sink .exit))) ⌝ }
 {

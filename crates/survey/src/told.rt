@@ -7,7 +7,7 @@ use rules::Entry;
 use rules::Rule;
 
 /// The argument at a place.
-pub fn argument_at(place: usize) -> Entry
+pub(crate) fn argument_at(place: usize) -> Entry
     ensures { λ r. ⌜ r ≡ told.argument place ⌝ }
 {
     Entry {
@@ -17,7 +17,7 @@ pub fn argument_at(place: usize) -> Entry
 }
 
 /// The group at a place.
-pub fn group_at(place: usize) -> Entry
+pub(crate) fn group_at(place: usize) -> Entry
     ensures { λ r. ⌜ r ≡ told.group place ⌝ }
 {
     Entry {
@@ -27,7 +27,7 @@ pub fn group_at(place: usize) -> Entry
 }
 
 /// The subcommand at a place.
-pub fn subcommand_at(place: usize) -> Entry
+pub(crate) fn subcommand_at(place: usize) -> Entry
     ensures { λ r. ⌜ r ≡ told.subcommand place ⌝ }
 {
     Entry {
@@ -37,7 +37,7 @@ pub fn subcommand_at(place: usize) -> Entry
 }
 
 /// A breach of the whole form.
-pub fn of_form(rule: Rule) -> Breach
+pub(crate) fn of_form(rule: Rule) -> Breach
     ensures { λ r. ⌜ r ≡ told.of-form rule ⌝ }
 {
     Breach {
@@ -51,7 +51,7 @@ pub fn of_form(rule: Rule) -> Breach
 }
 
 /// A breach of one entry.
-pub fn of_one(rule: Rule, entry: Entry) -> Breach
+pub(crate) fn of_one(rule: Rule, entry: Entry) -> Breach
     ensures { λ r. ⌜ r ≡ told.of-one rule entry ⌝ }
 {
     Breach {
@@ -65,7 +65,7 @@ pub fn of_one(rule: Rule, entry: Entry) -> Breach
 }
 
 /// A breach of one entry and one of its settings, told by its bit.
-pub fn of_bit(rule: Rule, entry: Entry, bit: usize) -> Breach
+pub(crate) fn of_bit(rule: Rule, entry: Entry, bit: usize) -> Breach
     ensures { λ r. ⌜ r ≡ told.of-bit rule entry bit ⌝ }
 {
     Breach {
@@ -79,7 +79,7 @@ pub fn of_bit(rule: Rule, entry: Entry, bit: usize) -> Breach
 }
 
 /// A breach of an item of a list of an entry.
-pub fn of_item(rule: Rule, entry: Entry, list: ItemList, item: usize) -> Breach
+pub(crate) fn of_item(rule: Rule, entry: Entry, list: ItemList, item: usize) -> Breach
     ensures { λ r. ⌜ r ≡ told.of-item rule entry list item ⌝ }
 {
     Breach {
@@ -93,7 +93,7 @@ pub fn of_item(rule: Rule, entry: Entry, list: ItemList, item: usize) -> Breach
 }
 
 /// A breach of two entries.
-pub fn of_two(rule: Rule, first: Entry, second: Entry) -> Breach
+pub(crate) fn of_two(rule: Rule, first: Entry, second: Entry) -> Breach
     ensures { λ r. ⌜ r ≡ told.of-two rule first second ⌝ }
 {
     Breach {
@@ -107,7 +107,7 @@ pub fn of_two(rule: Rule, first: Entry, second: Entry) -> Breach
 }
 
 /// A breach of two owners and a flag or name of each: 0 is the flag or name itself, an alias is 1 + its place.
-pub fn of_flags(rule: Rule, first: Entry, item: usize, second: Entry, other: usize) -> Breach
+pub(crate) fn of_flags(rule: Rule, first: Entry, item: usize, second: Entry, other: usize) -> Breach
     ensures { λ r. ⌜ r ≡ told.of-flags rule first item second other ⌝ }
 {
     Breach {

@@ -44,7 +44,7 @@ impl ArgRules for TrailingRules as TrailingArgRules {
 }
 
 /// Offers each argument that takes all that trails and is last, takes but one value, or is not at the highest position.
-pub fn survey_trailing<F: FormSource, S: Sink>(form: &F, sink: &mut S) -> bool
+pub(crate) fn survey_trailing<F: FormSource, S: Sink>(form: &F, sink: &mut S) -> bool
     ensures took { λ _. ⌜ S·Sink .after (now (sink .entry)) (section-report (F·FormSource .form (now (form .entry))) (by-argument 41 trailing-rows)) (now (sink .exit)) ⌝ }
     ensures goes { λ r. ⌜ r ≡ not (S·Sink .full (now (sink .exit))) ⌝ }
 {

@@ -24,7 +24,7 @@ use form::FormSource;
 use rules::Rule;
 
 /// Offers each later argument that has the id, the long name, the letter or the position of the argument.
-pub fn offer_twins<F: FormSource, S: Sink>(
+pub(crate) fn offer_twins<F: FormSource, S: Sink>(
     form: &F,
     place: usize,
     arg: &ArgView<'_>,

@@ -22,7 +22,7 @@ use rules::Rule;
 const VALUE_BITS: u16 = 0b1101_1111_0000;
 
 /// Offers each setting about values of an argument that takes none.
-pub fn offer_value_settings<S: Sink>(place: usize, arg: &ArgView<'_>, sink: &mut S) -> bool
+pub(crate) fn offer_value_settings<S: Sink>(place: usize, arg: &ArgView<'_>, sink: &mut S) -> bool
     ensures took { λ _. ⌜ ((f : Form) → Shows f place (now (arg .entry)) → S·Sink .after (now (sink .entry)) (arg-report f place (arg-of f place) (own-bit SettingWithoutValue setting-without-value)) (now (sink .exit))) ⌝ }
     ensures goes { λ r. ⌜ r ≡ not (S·Sink .full (now (sink .exit))) ⌝ }
 {

@@ -35,7 +35,7 @@ impl ArgRules for VersionRules as VersionArgRules {
 }
 
 /// Offers each argument that shows a version, if the form has none.
-pub fn survey_versions<F: FormSource, S: Sink>(form: &F, sink: &mut S) -> bool
+pub(crate) fn survey_versions<F: FormSource, S: Sink>(form: &F, sink: &mut S) -> bool
     ensures took { λ _. ⌜ S·Sink .after (now (sink .entry)) (section-report (F·FormSource .form (now (form .entry))) (by-argument 2 (whole VersionActionWithoutVersion version-without-version ∷ []))) (now (sink .exit)) ⌝ }
     ensures goes { λ r. ⌜ r ≡ not (S·Sink .full (now (sink .exit))) ⌝ }
 {

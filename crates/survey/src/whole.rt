@@ -12,7 +12,7 @@ use form::FormSource;
 use rules::Rule;
 
 /// Offers the form, if it propagates a version that it does not have.
-pub fn survey_propagation<F: FormSource, S: Sink>(form: &F, sink: &mut S) -> bool
+pub(crate) fn survey_propagation<F: FormSource, S: Sink>(form: &F, sink: &mut S) -> bool
     ensures took { λ _. ⌜ S·Sink .after (now (sink .entry)) (section-report (F·FormSource .form (now (form .entry))) (rows.of-the-form PropagateWithoutVersion rows.propagate-without-version)) (now (sink .exit)) ⌝ }
     ensures goes { λ r. ⌜ r ≡ not (S·Sink .full (now (sink .exit))) ⌝ }
 {
@@ -23,7 +23,7 @@ pub fn survey_propagation<F: FormSource, S: Sink>(form: &F, sink: &mut S) -> boo
 }
 
 /// Offers the form, if its positions do not run from 1 without a gap.
-pub fn survey_gaps<F: FormSource, S: Sink>(form: &F, sink: &mut S) -> bool
+pub(crate) fn survey_gaps<F: FormSource, S: Sink>(form: &F, sink: &mut S) -> bool
     ensures took { λ _. ⌜ S·Sink .after (now (sink .entry)) (section-report (F·FormSource .form (now (form .entry))) (rows.of-the-form PositionsWithGaps rows.positions-with-gaps)) (now (sink .exit)) ⌝ }
     ensures goes { λ r. ⌜ r ≡ not (S·Sink .full (now (sink .exit))) ⌝ }
 {
@@ -33,7 +33,7 @@ pub fn survey_gaps<F: FormSource, S: Sink>(form: &F, sink: &mut S) -> bool
 }
 
 /// Offers the form, if it is multicall and has no binary name.
-pub fn survey_multicall<F: FormSource, S: Sink>(form: &F, sink: &mut S) -> bool
+pub(crate) fn survey_multicall<F: FormSource, S: Sink>(form: &F, sink: &mut S) -> bool
     ensures took { λ _. ⌜ S·Sink .after (now (sink .entry)) (section-report (F·FormSource .form (now (form .entry))) (rows.of-the-form MulticallWithoutBinaryName rows.multicall-without-name)) (now (sink .exit)) ⌝ }
     ensures goes { λ r. ⌜ r ≡ not (S·Sink .full (now (sink .exit))) ⌝ }
 {
@@ -44,7 +44,7 @@ pub fn survey_multicall<F: FormSource, S: Sink>(form: &F, sink: &mut S) -> bool
 }
 
 /// Offers the form, if something was cut off it.
-pub fn survey_cut<F: FormSource, S: Sink>(form: &F, sink: &mut S) -> bool
+pub(crate) fn survey_cut<F: FormSource, S: Sink>(form: &F, sink: &mut S) -> bool
     ensures took { λ _. ⌜ S·Sink .after (now (sink .entry)) (section-report (F·FormSource .form (now (form .entry))) (rows.of-the-form FormCut (λ f. f .cut))) (now (sink .exit)) ⌝ }
     ensures goes { λ r. ⌜ r ≡ not (S·Sink .full (now (sink .exit))) ⌝ }
 {

@@ -10,7 +10,8 @@ returns-then-end-input c =
     let n = c .line-length-end .result in
     record {
       split = split-feed (c .args .input .now) n (n - 0) (length (c .args .input .now) - (n + 1)) (n + 1) (c .if-end-input .taken) (e .ended (c .if-end-input .taken)) (e .before) (omega arith) (omega arith) (omega arith);
-      shorter = λ some. simp (length-take, length-drop) (omega arith) }
+      shorter = λ some. simp (length-take, length-drop) (omega arith);
+    }
 
 pub returns-else-end-input : need.returns-else-end-input
 returns-else-end-input c =

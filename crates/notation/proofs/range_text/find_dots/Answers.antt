@@ -10,15 +10,17 @@ returns-then-text-i-eq46-2 c =
     let i = c .loop-i .i in
     record {
       value = sym (dots-here (c .args .text .now) (i - 1) i (omega arith) (omega arith) (c .if-text-i-eq46 .taken) (c .if-text-i-eq46-2 .taken)) ∙ c .loop-i .inv;
-      within = omega arith }
+      within = omega arith;
+    }
 
 pub loop-i-again : need.loop-i-again
 loop-i-again c =
     let i = c .loop-i .i in
     let here : i + 1 - 1 ≡ i = omega arith in
     let further = dots-further (c .args .text .now) (i - 1) i (omega arith) (omega arith) (λ a b. elim (c .else-text-i-eq46 .came) [
-        else-text-i-eq46·by·then-text-i-eq46·else-text-i-eq46-2 w ↦ w .if-text-i-eq46-2 .left b
-      | else-text-i-eq46·by·else-text-i-eq46 w ↦ w .if-text-i-eq46 .left a ]) in
+      | else-text-i-eq46·by·then-text-i-eq46·else-text-i-eq46-2 w ↦ w .if-text-i-eq46-2 .left b
+      | else-text-i-eq46·by·else-text-i-eq46 w ↦ w .if-text-i-eq46 .left a
+    ]) in
     rw here (sym further ∙ c .loop-i .inv)
 
 pub returns : need.returns

@@ -14,7 +14,8 @@ returns-then-list-needed g c =
       answer = short-answer f (c .args .list .now) _ is (omega arith);
       list = short-list f (c .args .list .now) _ is (omega arith);
       lists = λ n e. let z : _≡_ {A = ℕ} 0 1 = cc in absurd (omega arith);
-      tidy = λ e. let z : _≡_ {A = ℕ} 0 1 = cc in absurd (omega arith) }
+      tidy = λ e. let z : _≡_ {A = ℕ} 0 1 = cc in absurd (omega arith);
+    }
 
 pub returns : need.returns
 returns g c =
@@ -25,4 +26,5 @@ returns g c =
       answer = long-answer f (c .args .list .now) _ is (omega arith);
       list = long-list f (c .args .list .now) _ is _ (omega arith) (c .fill .ensures);
       lists = λ n e. long-lists f (c .args .list .now) _ is _ n (omega arith) (c .fill .ensures) e;
-      tidy = λ e. long-tidy f (c .args .list .now) _ is e }
+      tidy = λ e. long-tidy f (c .args .list .now) _ is e;
+    }

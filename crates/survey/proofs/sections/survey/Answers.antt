@@ -20,7 +20,8 @@ returns-then-not-survey-part g c =
     let full = stopped _ _ (c .survey-part .ensures .goes) (c .if-not-survey-part .taken) in
     record {
       took = rw (← parts-told f) (walk-stop (k .after) (k .more) (λ _ p. part-report f p) 0 parts part.Propagation _ _ _ (c .loop-part .part-index) (λ ys. k .stays _ ys full) (omega arith) (c .loop-part .inv) (c .survey-part .ensures .took));
-      goes = sym (ap not full) }
+      goes = sym (ap not full);
+    }
 
 pub returns : need.returns
 returns g c =
@@ -28,4 +29,5 @@ returns g c =
     let f = g .F·FormSource .form (c .args .form .now) in
     record {
       took = rw (← parts-told f) (walk-end (k .after) (k .none) (λ _ p. part-report f p) 0 parts _ _ (c .loop-part .part-index) (omega arith) (c .loop-part .inv));
-      goes = ap not (c .is-full .ensures) }
+      goes = ap not (c .is-full .ensures);
+    }

@@ -9,4 +9,5 @@ returns c =
     let r = c .args .self .now in
     record {
       value = refl;
-      means = (λ t. fixed-only (bounds r) (eqb-true _ _ t), λ o. eq-eqb _ _ (only-fixed (bounds r) _ (r .ordered) o)) }
+      means = (λ t. fixed-only (bounds r) (eqb-true _ _ t), λ o. eq-eqb _ _ (only-fixed (bounds r) _ (r .ordered) o));
+    }
