@@ -11,4 +11,3 @@ pub mod Keys
 pub mod Shown
 pub mod Limits
 pub mod Blank
-pub mod KeysAt

@@ -14,7 +14,7 @@ use Rattle.std.proofs.shelf.Lists.{take-map, length-map}
 use Rattle.std.proofs.shelf.Maps.{nth-past}
 use Rattle.form.specs.Model.{Arg, Form}
 use Rattle.form.specs.Keys.{Key, letter, long, arg-keys, keys-from, keys-of}
-use Rattle.form.proofs.KeyLists.{keys-append, nth-left, nth-right}
+use Rattle.keys.proofs.KeyLists.{keys-append, nth-left, nth-right}
 use Rattle.layers.specs.Flags.{help, version, where-wanted, wanted, wants-help, wants-version, with-flags}
 use Rattle.layers.specs.Room.{fitting}
 use Rattle.layers.specs.Named.{flag-arg}

@@ -17,8 +17,8 @@ use form::ItemList;
 use form::Key;
 use form::Keyed;
 use form::SubcommandView;
-use form::count_keys;
-use form::key_at;
+use keys::count_keys;
+use keys::key_at;
 
 // the row at the place
 fn row_at<R>(rows: &[R], place: usize) -> &R

@@ -1,6 +1,6 @@
 use mathlib.Core.Path.{_≡_, ap, _∙_}
 use native.Mathlib.Omega.{arith}
-use Rattle.form.proofs.KeyLists.{form-keys-few}
+use Rattle.keys.proofs.KeyLists.{form-keys-few}
 use Rattle.layers.proofs.Places.{fitting-few}
 use Rattle.layers.proofs.FlagKeys.{flags-key-count}
 use Rattle.layers.proofs.standard_flags.FlagsKeyed.key_count.Needs as need

@@ -2,10 +2,10 @@ use mathlib.Core.Path.{_≡_, ap, _∙_}
 use native.Mathlib.Omega.{arith}
 use lib.ListN.{length, getD}
 use Rattle.std.specs.declared.option.Option.the-variants.{None}
 use Rattle.form.specs.Model.{blank-arg}
-use Rattle.form.specs.KeysAt.{own-names, names-at-place}
-use Rattle.form.proofs.ArgKeys.{names-total, no-index, place-few}
-use Rattle.form.proofs.keys.arg_key_count.Needs as need
+use Rattle.keys.specs.KeysAt.{own-names, names-at-place}
+use Rattle.keys.proofs.ArgKeys.{names-total, no-index, place-few}
+use Rattle.keys.proofs.walk.arg_key_count.Needs as need
 
 pub add-result : need.add-result
 add-result g c =

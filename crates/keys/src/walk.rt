@@ -4,13 +4,13 @@ ghost use lib.ListN.{length};
 ghost use Rattle.std.specs.Finite.{nth};
 ghost use Rattle.std.specs.Options.{mapped};
 ghost use Rattle.std.specs.declared.option.Option.the-variants.{Some};
 ghost use Rattle.form.specs.Keys.{keys-of};
-ghost use Rattle.form.specs.KeysAt.{long-names, own-names, names-at-place};
+ghost use Rattle.keys.specs.KeysAt.{long-names, own-names, names-at-place};
 ghost use Rattle.form.specs.Shown.{key-name, shown-key};
-use super::lists::ItemList;
-use super::source::FormSource;
-use super::views::Key;
-use super::views::KeyType;
+use form::ItemList;
+use form::FormSource;
+use form::Key;
+use form::KeyType;
 
 // A long name is one key, the first.
 fn long_key<'a>(long: Option<&'a [u8]>, n: usize) -> Option<KeyType<'a>>

@@ -1,9 +1,9 @@
 use mathlib.Core.Path.{_≡_, sym, ap, _∙_}
 use native.Mathlib.Omega.{arith}
 use Rattle.std.specs.Finite.{nth}
 use Rattle.form.specs.Shown.{key-name}
-use Rattle.form.proofs.ArgKeys.{key-here, key-later, keys-past}
-use Rattle.form.proofs.keys.key_at.Needs as need
+use Rattle.keys.proofs.ArgKeys.{key-here, key-later, keys-past}
+use Rattle.keys.proofs.walk.key_at.Needs as need
 
 pub returns-then-rest-count : need.returns-then-rest-count
 returns-then-rest-count g c =

@@ -3,11 +3,11 @@ use native.Mathlib.Omega.{arith}
 use Prim.Native.Nat.{_-_}
 use lib.ListN.{length, getD}
 use Rattle.std.specs.declared.option.Option.the-variants.{Some, None}
 use Rattle.form.specs.Model.{blank-arg}
 use Rattle.form.specs.Keys.{letter, long}
-use Rattle.form.specs.KeysAt.{own-names, names-at-place}
-use Rattle.form.proofs.ArgKeys.{past-none, letter-alias-at, long-alias-at}
-use Rattle.form.proofs.keys.arg_key.Needs as need
+use Rattle.keys.specs.KeysAt.{own-names, names-at-place}
+use Rattle.keys.proofs.ArgKeys.{past-none, letter-alias-at, long-alias-at}
+use Rattle.keys.proofs.walk.arg_key.Needs as need
 
 pub returns-then-n-letters : need.returns-then-n-letters
 returns-then-n-letters g c =

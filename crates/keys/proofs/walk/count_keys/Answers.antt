@@ -1,9 +1,9 @@
 use mathlib.Core.Path.{_≡_, ap, _∙_}
 use native.Mathlib.Omega.{arith}
 use lib.ListN.{length}
-use Rattle.form.proofs.KeyLists.{form-keys-few}
-use Rattle.form.proofs.ArgKeys.{count-more, keys-past}
-use Rattle.form.proofs.keys.count_keys.Needs as need
+use Rattle.keys.proofs.KeyLists.{form-keys-few}
+use Rattle.keys.proofs.ArgKeys.{count-more, keys-past}
+use Rattle.keys.proofs.walk.count_keys.Needs as need
 
 pub add-count : need.add-count
 add-count g c =

@@ -12,11 +12,11 @@ use Rattle.std.specs.Options.{mapped, isSome}
 use Rattle.std.specs.declared.option.Option.{Option}
 use Rattle.std.specs.declared.option.Option.the-variants.{Some, None}
 use Rattle.std.proofs.shelf.Lists.{length-map, drop-more, drop-all}
 use Rattle.form.specs.Model.{Name, Arg, Form, blank-arg}
 use Rattle.form.specs.Keys.{Key, KeyName, letter, long, listed, key-names, arg-keys, keys-from, keys-of}
-use Rattle.form.specs.KeysAt.{long-names, own-names, names-at-place}
+use Rattle.keys.specs.KeysAt.{long-names, own-names, names-at-place}
 use Rattle.form.specs.Limits.{Fits, arg-items, summed}
-use Rattle.form.proofs.KeyLists.{nth-left, nth-right, names-few, form-keys-few}
+use Rattle.keys.proofs.KeyLists.{nth-left, nth-right, names-few, form-keys-few}
 
 nth-map : {X Y : Type 0} (f : X → Y) (xs : List X) (i : ℕ) → nth (map f xs) i ≡ mapped f (nth xs i)
 nth-map f [] i = refl

@@ -1,8 +1,8 @@
 use mathlib.Core.Path.{_≡_}
 use Rattle.std.specs.Finite.{nth}
 use lib.ListN.{length, drop}
 use Rattle.form.specs.Keys.{keys-from, keys-of}
-use Rattle.form.proofs.keys.key_at.Given as given
+use Rattle.keys.proofs.walk.key_at.Given as given
 
 -- the key that is sought, among those of the arguments to come
 abbrev pub Inv-loop-place : given.InvT-loop-place

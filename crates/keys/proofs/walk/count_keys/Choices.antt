@@ -1,8 +1,8 @@
 use mathlib.Core.Path.{_≡_}
 use Prim.Native.Nat.{_+_}
 use lib.ListN.{length, drop}
 use Rattle.form.specs.Keys.{keys-from, keys-of}
-use Rattle.form.proofs.keys.count_keys.Given as given
+use Rattle.keys.proofs.walk.count_keys.Given as given
 
 -- what is counted, and the keys of the arguments to come
 abbrev pub Inv-loop-place : given.InvT-loop-place

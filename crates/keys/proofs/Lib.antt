@@ -1,0 +1,2 @@
+pub mod ArgKeys
+pub mod KeyLists
