@@ -46,7 +46,10 @@ fn a_long_list_keeps_its_rest(rt: LibcRuntime) -> Result<(), Fail> {
     let Ok(()) = say_report(&mut out, &form, &list, true) else {
         return Err(Fail::new("no room for the text"));
     };
-    check_eq(out.as_str(), "breaches 3\n18 a0 - 0 0 0\n18 a1 - 0 0 0\n51 - - 0 0 0\n")
+    check_eq(
+        out.as_str(),
+        "breaches 3\n18 a0 - 0 0 0\n18 a1 - 0 0 0\n51 - - 0 0 0\n",
+    )
 }
 
 #[test]

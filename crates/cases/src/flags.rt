@@ -16,7 +16,12 @@ use table::TableForm;
 use table::TableSource;
 
 // the breaches of a form of arguments under the standard flags
-fn expect_under(heap: Global, settings: u16, args: &[ArgRow<'static>], expected: &str) -> Result<(), Fail> {
+fn expect_under(
+    heap: Global,
+    settings: u16,
+    args: &[ArgRow<'static>],
+    expected: &str,
+) -> Result<(), Fail> {
     let form = TableForm::of_args(AppFlags::from_bits(settings), args);
     let layer = StandardFlags::new(form);
     let text = told(heap, &layer)?;
@@ -24,7 +29,12 @@ fn expect_under(heap: Global, settings: u16, args: &[ArgRow<'static>], expected:
 }
 
 // the same under the standard flags twice
-fn expect_twice(heap: Global, settings: u16, args: &[ArgRow<'static>], expected: &str) -> Result<(), Fail> {
+fn expect_twice(
+    heap: Global,
+    settings: u16,
+    args: &[ArgRow<'static>],
+    expected: &str,
+) -> Result<(), Fail> {
     let form = TableForm::of_args(AppFlags::from_bits(settings), args);
     let layer = StandardFlags::new(StandardFlags::new(form));
     let text = told(heap, &layer)?;
@@ -86,25 +96,46 @@ fn standard_flags_that_clash(rt: LibcRuntime) -> Result<(), Fail> {
     let heap = rt.alloc();
     let args = [row(option(b"a"))];
     expect_under(heap, 64, &args, SOUND)?;
-    expect_under(heap, 1 + 32, &args, "breaches 2\n17 a0 - 0 0 0\n17 a1 - 0 0 0\n")?;
-    let both = ArgView { letter: Some('h'), id: b"assist", ..option(b"help") };
+    expect_under(
+        heap,
+        1 + 32,
+        &args,
+        "breaches 2\n17 a0 - 0 0 0\n17 a1 - 0 0 0\n",
+    )?;
+    let both = ArgView {
+        letter: Some('h'),
+        id: b"assist",
+        ..option(b"help")
+    };
     let args = [row(both)];
     let clash = "breaches 4\n20 a0 a1 0 0 0\n21 a0 a1 0 0 0\n36 a0 a1 0 0 0\n37 a0 a1 0 0 0\n";
     expect_under(heap, 0, &args, clash)?;
     expect_under(heap, 16, &args, SOUND)?;
-    let twice = "breaches 11\n20 a0 a1 0 0 0\n20 a0 a2 0 0 0\n21 a0 a1 0 0 0\n21 a0 a2 0 0 0\n19 a1 a2 0 0 0\n20 a1 a2 0 0 0\n21 a1 a2 0 0 0\n36 a0 a1 0 0 0\n36 a0 a2 0 0 0\n37 a0 a1 0 0 0\n37 a0 a2 0 0 0\n";
+    let twice =
+        "breaches 11\n20 a0 a1 0 0 0\n20 a0 a2 0 0 0\n21 a0 a1 0 0 0\n21 a0 a2 0 0 0\n19 a1 a2 0 0 0\n20 a1 a2 0 0 0\n21 a1 a2 0 0 0\n36 a0 a1 0 0 0\n36 a0 a2 0 0 0\n37 a0 a1 0 0 0\n37 a0 a2 0 0 0\n";
     expect_twice(heap, 0, &args, twice)?;
     let args = [row(option(b"help"))];
-    expect_under(heap, 0, &args, "breaches 2\n19 a0 a1 0 0 0\n20 a0 a1 0 0 0\n")
+    expect_under(
+        heap,
+        0,
+        &args,
+        "breaches 2\n19 a0 a1 0 0 0\n20 a0 a1 0 0 0\n",
+    )
 }
 
 #[test]
 fn two_layers_clash_but_not_by_flags_of_one_id(rt: LibcRuntime) -> Result<(), Fail> {
     let heap = rt.alloc();
     let none: [ArgRow<'static>; 0] = [];
-    expect_twice(heap, 0, &none, "breaches 3\n19 a0 a1 0 0 0\n20 a0 a1 0 0 0\n21 a0 a1 0 0 0\n")?;
+    expect_twice(
+        heap,
+        0,
+        &none,
+        "breaches 3\n19 a0 a1 0 0 0\n20 a0 a1 0 0 0\n21 a0 a1 0 0 0\n",
+    )?;
     expect_twice(heap, 16, &none, SOUND)?;
-    let six = "breaches 6\n19 a0 a2 0 0 0\n20 a0 a2 0 0 0\n21 a0 a2 0 0 0\n19 a1 a3 0 0 0\n20 a1 a3 0 0 0\n21 a1 a3 0 0 0\n";
+    let six =
+        "breaches 6\n19 a0 a2 0 0 0\n20 a0 a2 0 0 0\n21 a0 a2 0 0 0\n19 a1 a3 0 0 0\n20 a1 a3 0 0 0\n21 a1 a3 0 0 0\n";
     expect_twice(heap, 64, &none, six)
 }
 
@@ -125,8 +156,89 @@ fn a_flag_that_finds_no_room_cuts_the_form() -> Result<(), Fail> {
     check_eq(layer.arg_count(), 80)
 }
 
-// names of one byte, all different
-static BYTES: [u8; 80] = [0, 1, 2, 3, 4, 5, 6, 7, 8, 9, 10, 11, 12, 13, 14, 15, 16, 17, 18, 19, 20, 21, 22, 23, 24, 25, 26, 27, 28, 29, 30, 31, 32, 33, 34, 35, 36, 37, 38, 39, 40, 41, 42, 43, 44, 45, 46, 47, 48, 49, 50, 51, 52, 53, 54, 55, 56, 57, 58, 59, 60, 61, 62, 63, 64, 65, 66, 67, 68, 69, 70, 71, 72, 73, 74, 75, 76, 77, 78, 79];
+// names of one byte, all different and none a dash
+static BYTES: [u8; 80] = [
+    46,
+    47,
+    48,
+    49,
+    50,
+    51,
+    52,
+    53,
+    54,
+    55,
+    56,
+    57,
+    58,
+    59,
+    60,
+    61,
+    62,
+    63,
+    64,
+    65,
+    66,
+    67,
+    68,
+    69,
+    70,
+    71,
+    72,
+    73,
+    74,
+    75,
+    76,
+    77,
+    78,
+    79,
+    80,
+    81,
+    82,
+    83,
+    84,
+    85,
+    86,
+    87,
+    88,
+    89,
+    90,
+    91,
+    92,
+    93,
+    94,
+    95,
+    96,
+    97,
+    98,
+    99,
+    100,
+    101,
+    102,
+    103,
+    104,
+    105,
+    106,
+    107,
+    108,
+    109,
+    110,
+    111,
+    112,
+    113,
+    114,
+    115,
+    116,
+    117,
+    118,
+    119,
+    120,
+    121,
+    122,
+    123,
+    124,
+    125,
+];
 
 // as many arguments as a form can hold, no two alike
 fn eighty() -> [ArgRow<'static>; 80] {

@@ -44,7 +44,8 @@ fn a_required_argument_with_conditions(rt: LibcRuntime) -> Result<(), Fail> {
         ..optional
     };
     let args = [required, b];
-    let each = "breaches 5\n24 a0 - 2 0 0\n24 a0 - 3 0 0\n24 a0 - 4 0 0\n24 a0 - 5 0 0\n24 a0 - 5 1 0\n";
+    let each =
+        "breaches 5\n24 a0 - 2 0 0\n24 a0 - 3 0 0\n24 a0 - 4 0 0\n24 a0 - 5 0 0\n24 a0 - 5 1 0\n";
     expect_args(heap, 0, &args, each)?;
     let other = ArgRow {
         arg: with_bits(option(b"a"), REQUIRED),
@@ -56,7 +57,8 @@ fn a_required_argument_with_conditions(rt: LibcRuntime) -> Result<(), Fail> {
     let args = [other, b];
     expect_args(heap, 0, &args, SOUND)?;
     let args = [required];
-    let both = "breaches 10\n24 a0 - 2 0 0\n25 a0 - 2 0 0\n24 a0 - 3 0 0\n25 a0 - 3 0 0\n24 a0 - 4 0 0\n25 a0 - 4 0 0\n24 a0 - 5 0 0\n25 a0 - 5 0 0\n24 a0 - 5 1 0\n25 a0 - 5 1 0\n";
+    let both =
+        "breaches 10\n24 a0 - 2 0 0\n25 a0 - 2 0 0\n24 a0 - 3 0 0\n25 a0 - 3 0 0\n24 a0 - 4 0 0\n25 a0 - 4 0 0\n24 a0 - 5 0 0\n25 a0 - 5 0 0\n24 a0 - 5 1 0\n25 a0 - 5 1 0\n";
     expect_args(heap, 0, &args, both)
 }
 
@@ -76,7 +78,8 @@ fn references_that_meet_nothing(rt: LibcRuntime) -> Result<(), Fail> {
         letter_aliases: &['z'],
     };
     let args = [all, row(option(b"b"))];
-    let each = "breaches 7\n25 a0 - 1 0 0\n25 a0 - 2 0 0\n25 a0 - 3 0 0\n25 a0 - 4 0 0\n25 a0 - 5 0 0\n25 a0 - 6 1 0\n25 a0 - 7 0 0\n";
+    let each =
+        "breaches 7\n25 a0 - 1 0 0\n25 a0 - 2 0 0\n25 a0 - 3 0 0\n25 a0 - 4 0 0\n25 a0 - 5 0 0\n25 a0 - 6 1 0\n25 a0 - 7 0 0\n";
     expect_args(heap, 0, &args, each)?;
     let x = [GroupRow::new(b"x")];
     let none: [SubcommandRow<'static>; 0] = [];

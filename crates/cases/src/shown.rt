@@ -29,9 +29,13 @@ pub(crate) const BLANK: Breach = Breach {
 
 // settings of an argument
 pub(crate) const REQUIRED: u16 = 1;
+
 pub(crate) const GLOBAL: u16 = 2;
+
 pub(crate) const EQUALS: u16 = 128;
+
 pub(crate) const LAST: u16 = 256;
+
 pub(crate) const TRAILING: u16 = 512;
 
 pub(crate) const SOUND: &str = "breaches 0\n";
@@ -67,14 +71,24 @@ pub(crate) fn expect<'t>(
 }
 
 // the same for a form of arguments alone
-pub(crate) fn expect_args(heap: Global, settings: u16, args: &[ArgRow<'static>], expected: &str) -> Result<(), Fail> {
+pub(crate) fn expect_args(
+    heap: Global,
+    settings: u16,
+    args: &[ArgRow<'static>],
+    expected: &str,
+) -> Result<(), Fail> {
     let form = TableForm::of_args(AppFlags::from_bits(settings), args);
     let text = told(heap, &form)?;
     check_eq(text.as_str(), expected)
 }
 
 // the same for one argument without items
-pub(crate) fn expect_one(heap: Global, settings: u16, arg: ArgView<'static>, expected: &str) -> Result<(), Fail> {
+pub(crate) fn expect_one(
+    heap: Global,
+    settings: u16,
+    arg: ArgView<'static>,
+    expected: &str,
+) -> Result<(), Fail> {
     let args = [row(arg)];
     expect_args(heap, settings, &args, expected)
 }

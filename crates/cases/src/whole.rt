@@ -8,9 +8,13 @@ use table::GroupRow;
 use table::SubcommandRow;
 
 const MULTICALL: u16 = 1;
+
 const NO_BINARY_NAME: u16 = 2;
+
 const PROPAGATE: u16 = 4;
+
 const NEGATE: u16 = 8;
+
 const VERSION: u16 = 64;
 
 #[test]
@@ -23,10 +27,20 @@ fn versions_and_multicall(rt: LibcRuntime) -> Result<(), Fail> {
     expect_one(heap, 0, version, "breaches 1\n2 a0 - 0 0 0\n")?;
     expect_one(heap, VERSION, version, SOUND)?;
     let args = [row(option(b"a")), row(option(b"b"))];
-    expect_args(heap, MULTICALL, &args, "breaches 2\n17 a0 - 0 0 0\n17 a1 - 0 0 0\n")?;
+    expect_args(
+        heap,
+        MULTICALL,
+        &args,
+        "breaches 2\n17 a0 - 0 0 0\n17 a1 - 0 0 0\n",
+    )?;
     expect_args(heap, NO_BINARY_NAME, &args, SOUND)?;
     expect_args(heap, MULTICALL, &none, SOUND)?;
-    expect_args(heap, MULTICALL + NO_BINARY_NAME, &none, "breaches 1\n50 - - 0 0 0\n")
+    expect_args(
+        heap,
+        MULTICALL + NO_BINARY_NAME,
+        &none,
+        "breaches 1\n50 - - 0 0 0\n",
+    )
 }
 
 #[test]
@@ -39,7 +53,10 @@ fn gaps_between_positions(rt: LibcRuntime) -> Result<(), Fail> {
     expect_args(heap, 0, &args, SOUND)?;
     let args = [row(ranged(place(b"a", 1), 1, 9)), row(place(b"b", 3))];
     expect_args(heap, 0, &args, gap)?;
-    let flagged = ArgView { index: Some(2), ..option(b"b") };
+    let flagged = ArgView {
+        index: Some(2),
+        ..option(b"b")
+    };
     let args = [row(place(b"a", 1)), row(flagged)];
     expect_args(heap, 0, &args, "breaches 1\n9 a1 - 0 0 0\n")
 }
@@ -69,13 +86,22 @@ fn an_open_argument_before_an_optional_one(rt: LibcRuntime) -> Result<(), Fail> 
     let second = place(b"b", 2);
     let args = [row(open), row(second)];
     expect_args(heap, 0, &args, "breaches 1\n44 a1 a0 0 0 0\n")?;
-    let args = [row(ArgView { terminated: true, ..open }), row(second)];
+    let args = [
+        row(ArgView {
+            terminated: true,
+            ..open
+        }),
+        row(second),
+    ];
     expect_args(heap, 0, &args, SOUND)?;
     let args = [row(with_bits(open, LAST)), row(second)];
     expect_args(heap, 0, &args, SOUND)?;
     let args = [row(open), row(with_bits(second, LAST))];
     expect_args(heap, 0, &args, SOUND)?;
-    let args = [row(with_bits(open, REQUIRED)), row(with_bits(second, REQUIRED))];
+    let args = [
+        row(with_bits(open, REQUIRED)),
+        row(with_bits(second, REQUIRED)),
+    ];
     expect_args(heap, 0, &args, SOUND)?;
     let args = [row(place(b"a", 1)), row(ranged(second, 1, 9))];
     expect_args(heap, 0, &args, SOUND)
@@ -90,12 +116,19 @@ fn multiple_values_below_the_last_two(rt: LibcRuntime) -> Result<(), Fail> {
     let third = with_bits(place(b"c", 3), REQUIRED);
     let args = [row(open), row(ranged(second, 2, 2)), row(third)];
     expect_args(heap, 0, &args, broken)?;
-    let ended = ArgView { terminated: true, ..open };
+    let ended = ArgView {
+        terminated: true,
+        ..open
+    };
     let args = [row(ended), row(ranged(second, 2, 2)), row(third)];
     expect_args(heap, 0, &args, SOUND)?;
     let args = [row(ended), row(second), row(third)];
     expect_args(heap, 0, &args, broken)?;
-    let args = [row(ended), row(second), row(with_bits(third, REQUIRED + LAST))];
+    let args = [
+        row(ended),
+        row(second),
+        row(with_bits(third, REQUIRED + LAST)),
+    ];
     expect_args(heap, 0, &args, SOUND)
 }
 
@@ -117,9 +150,19 @@ fn more_than_one_argument_of_many_values(rt: LibcRuntime) -> Result<(), Fail> {
     let args = [row(a), row(with_bits(b, LAST))];
     expect_args(heap, 0, &args, SOUND)?;
     let args = [row(a), row(b)];
-    expect_args(heap, 0, &args, "breaches 2\n44 a1 a0 0 0 0\n46 a1 a0 0 0 0\n")?;
+    expect_args(
+        heap,
+        0,
+        &args,
+        "breaches 2\n44 a1 a0 0 0 0\n46 a1 a0 0 0 0\n",
+    )?;
     let args = [row(a), row(b), row(place(b"c", 3))];
-    expect_args(heap, 0, &args, "breaches 3\n44 a2 a1 0 0 0\n45 a2 a1 0 0 0\n46 a2 a1 0 0 0\n")
+    expect_args(
+        heap,
+        0,
+        &args,
+        "breaches 3\n44 a2 a1 0 0 0\n45 a2 a1 0 0 0\n46 a2 a1 0 0 0\n",
+    )
 }
 
 #[test]
@@ -156,7 +199,14 @@ fn beside_subcommands(rt: LibcRuntime) -> Result<(), Fail> {
     let none: [ArgRow<'static>; 0] = [];
     let groups: [GroupRow<'static>; 0] = [];
     let dashed = [with_long(b"s", b"-x")];
-    expect(heap, 0, &none, &groups, &dashed, "breaches 1\n3 s0 - 0 0 0\n")?;
+    expect(
+        heap,
+        0,
+        &none,
+        &groups,
+        &dashed,
+        "breaches 1\n3 s0 - 0 0 0\n",
+    )?;
     let after = [with_long(b"s", b"x-")];
     expect(heap, 0, &none, &groups, &after, SOUND)?;
     let alias = SubcommandRow {
@@ -166,7 +216,14 @@ fn beside_subcommands(rt: LibcRuntime) -> Result<(), Fail> {
     let aliased = [alias];
     expect(heap, 0, &none, &groups, &aliased, SOUND)?;
     let args = [row(with_bits(place(b"a", 1), REQUIRED + LAST))];
-    expect(heap, 0, &args, &groups, &after, "breaches 1\n49 a0 - 0 0 0\n")?;
+    expect(
+        heap,
+        0,
+        &args,
+        &groups,
+        &after,
+        "breaches 1\n49 a0 - 0 0 0\n",
+    )?;
     expect(heap, NEGATE, &args, &groups, &after, SOUND)?;
     expect_args(heap, 0, &args, SOUND)?;
     let optional = [row(with_bits(place(b"a", 1), LAST))];
@@ -176,19 +233,37 @@ fn beside_subcommands(rt: LibcRuntime) -> Result<(), Fail> {
 #[test]
 fn the_order_of_a_report(rt: LibcRuntime) -> Result<(), Fail> {
     let conflicts = ArgRow {
-        arg: ArgView { id: b"a", ..option(b"-a") },
+        arg: ArgView {
+            id: b"a",
+            ..option(b"-a")
+        },
         conflicts: &[b"a", b"x"],
         ..ArgRow::new(b"a")
     };
-    let args = [conflicts, row(place(b"b", 1)), row(with_bits(place(b"c", 3), REQUIRED))];
+    let args = [
+        conflicts,
+        row(place(b"b", 1)),
+        row(with_bits(place(b"c", 3), REQUIRED)),
+    ];
     let group = GroupRow {
         members: &[b"x"],
         ..GroupRow::new(b"a")
     };
     let groups = [group];
     let s = with_long(b"s", b"-a");
-    let aliased = SubcommandRow { aliases: &[b"s"], ..s };
+    let aliased = SubcommandRow {
+        aliases: &[b"s"],
+        ..s
+    };
     let subcommands = [aliased];
-    let all = "breaches 14\n1 - - 0 0 0\n3 s0 - 0 0 0\n4 a0 - 6 0 0\n17 a0 - 0 0 0\n18 a0 - 0 0 0\n25 a0 - 6 1 0\n17 a1 - 0 0 0\n17 a2 - 0 0 0\n32 g0 a0 0 0 0\n33 g0 - 10 0 0\n36 s0 a0 0 0 0\n39 s0 s0 0 1 0\n40 - - 0 0 0\n50 - - 0 0 0\n";
-    expect(rt.alloc(), MULTICALL + NO_BINARY_NAME + PROPAGATE, &args, &groups, &subcommands, all)
+    let all =
+        "breaches 14\n1 - - 0 0 0\n3 s0 - 0 0 0\n4 a0 - 6 0 0\n17 a0 - 0 0 0\n18 a0 - 0 0 0\n25 a0 - 6 1 0\n17 a1 - 0 0 0\n17 a2 - 0 0 0\n32 g0 a0 0 0 0\n33 g0 - 10 0 0\n36 s0 a0 0 0 0\n39 s0 s0 0 1 0\n40 - - 0 0 0\n50 - - 0 0 0\n";
+    expect(
+        rt.alloc(),
+        MULTICALL + NO_BINARY_NAME + PROPAGATE,
+        &args,
+        &groups,
+        &subcommands,
+        all,
+    )
 }

@@ -7,8 +7,8 @@ ghost use Rattle.std.specs.declared.option.Option.the-variants.{Some};
 ghost use Rattle.form.specs.Keys.{keys-of};
 ghost use Rattle.keys.specs.KeysAt.{long-names, own-names, names-at-place};
 ghost use Rattle.form.specs.Shown.{key-name, shown-key};
-use form::ItemList;
 use form::FormSource;
+use form::ItemList;
 use form::Key;
 use form::KeyType;
 

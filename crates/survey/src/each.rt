@@ -24,7 +24,11 @@ pub trait ArgRules {
 }
 
 /// Offers what each argument breaks of the rules.
-pub(crate) fn survey_each<F: FormSource, R: ArgRules, S: Sink>(form: &F, rules: &R, sink: &mut S) -> bool
+pub(crate) fn survey_each<F: FormSource, R: ArgRules, S: Sink>(
+    form: &F,
+    rules: &R,
+    sink: &mut S,
+) -> bool
     ensures took { λ _. ⌜ S·Sink .after (now (sink .entry)) (blocks (λ p a. tests-told (argument p) (R·ArgRules .tests (now (rules .entry)) (bare (arg-record a)))) 0 (F·FormSource .form (now (form .entry)) .args)) (now (sink .exit)) ⌝ }
     ensures goes { λ r. ⌜ r ≡ not (S·Sink .full (now (sink .exit))) ⌝ }
 {
