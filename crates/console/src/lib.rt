@@ -1,6 +1,5 @@
 //! What the desk says: each command as a function from its input to the text that it prints.
 mod breaches;
-mod lines;
 mod ranges;
 mod text;
 mod tour;

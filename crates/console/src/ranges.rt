@@ -1,4 +1,3 @@
-use super::lines::split_line;
 use super::text::Text;
 use super::text::TextDisplay;
 use form::RangeFault;
@@ -6,6 +5,7 @@ use form::Refusal;
 use form::RefusalFromRange;
 use form::ValueRange;
 use notation::read_range;
+use notation::split_line;
 use std::fmt;
 use std::fmt::Write;
 

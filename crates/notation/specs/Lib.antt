@@ -1,3 +1,4 @@
 pub mod Numbers
 pub mod RangeTexts
 pub mod Read
+pub mod Lines

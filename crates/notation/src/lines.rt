@@ -1,7 +1,7 @@
 ghost use mathlib.Core.Path.{_≡_};
 ghost use Prim.Native.Nat.{ℕ, _<_, _≤_};
 ghost use lib.ListN.{length, getD};
-ghost use Rattle.console.specs.Lines.{Split};
+ghost use Rattle.notation.specs.Lines.{Split};
 
 // The length of the first line: up to the first line feed, or the whole.
 fn line_length(input: &[u8]) -> usize

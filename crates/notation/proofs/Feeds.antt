@@ -6,7 +6,7 @@ use Prim.Native.Nat.{ℕ, zero, suc, _+_, _-_, _≤_, _<_}
 use native.Mathlib.Omega.{arith}
 use lib.ListN.{length, getD, take, drop, length-drop}
 use lib.Seq.{take-all}
-use Rattle.console.specs.Lines.{No-feed, Split}
+use Rattle.notation.specs.Lines.{No-feed, Split}
 
 split-here : (s : List ℕ) (n : ℕ) → n < length s → getD s n 0 ≡ 10 → s ≡ take n s ++ (10 ∷ drop (suc n) s)
 split-here [] n h e = absurd (omega arith)

@@ -1,8 +1,8 @@
 use native.Mathlib.Omega.{arith}
 use Prim.Native.Nat.{_+_, _-_}
 use lib.ListN.{length, length-take, length-drop}
-use Rattle.console.proofs.Feeds.{split-feed, split-end}
-use Rattle.console.proofs.lines.split_line.Needs as need
+use Rattle.notation.proofs.Feeds.{split-feed, split-end}
+use Rattle.notation.proofs.lines.split_line.Needs as need
 
 pub returns-then-end-input : need.returns-then-end-input
 returns-then-end-input c =
