@@ -95,7 +95,13 @@ fn indices(rt: LibcRuntime) -> Result<(), Fail> {
         "breaches 2\n10 a0 - 0 0 0\n40 - - 0 0 0\n",
     )?;
     let args = [row(place(b"a", 0)), row(place(b"b", 2))];
-    expect_args(heap, 0, &args, "breaches 1\n10 a0 - 0 0 0\n")?;
+    expect_args(heap, 0, &args, "breaches 1\n10 a0 - 0 0 0\n")
+}
+
+#[test]
+fn indices_and_values(rt: LibcRuntime) -> Result<(), Fail> {
+    let heap = rt.alloc();
+    let first = place(b"a", 1);
     expect_one(heap, 0, ranged(first, 0, 0), "breaches 1\n11 a0 - 0 0 0\n")?;
     expect_one(heap, 0, ranged(first, 0, 1), SOUND)?;
     expect_one(

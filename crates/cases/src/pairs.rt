@@ -165,7 +165,15 @@ fn long_flags_of_subcommands(rt: LibcRuntime) -> Result<(), Fail> {
         &groups,
         &subcommands,
         "breaches 1\n38 s1 s0 0 0 0\n",
-    )?;
+    )
+}
+
+#[test]
+fn long_flags_of_both_kinds(rt: LibcRuntime) -> Result<(), Fail> {
+    let heap = rt.alloc();
+    let none: [ArgRow<'static>; 0] = [];
+    let groups: [GroupRow<'static>; 0] = [];
+    let x = subcommand(b"s", Some(b"x"), None);
     let subcommands = [x];
     let args = [row(ArgView {
         id: b"s",
@@ -280,7 +288,16 @@ fn names_of_subcommands(rt: LibcRuntime) -> Result<(), Fail> {
         "breaches 1\n38 s2 s0 0 0 0\n",
     )?;
     let subcommands = [s, t];
-    expect(heap, 0, &args, &groups, &subcommands, SOUND)?;
+    expect(heap, 0, &args, &groups, &subcommands, SOUND)
+}
+
+#[test]
+fn names_and_aliases_of_subcommands(rt: LibcRuntime) -> Result<(), Fail> {
+    let heap = rt.alloc();
+    let args = [row(option(b"s"))];
+    let groups: [GroupRow<'static>; 0] = [];
+    let s = SubcommandRow::new(b"s");
+    let t = SubcommandRow::new(b"t");
     let also_t = SubcommandRow {
         aliases: &[b"t"],
         ..s
@@ -306,7 +323,24 @@ fn names_of_subcommands(rt: LibcRuntime) -> Result<(), Fail> {
         &groups,
         &subcommands,
         "breaches 1\n39 s1 s0 0 1 0\n",
-    )?;
+    )
+}
+
+#[test]
+fn aliases_of_subcommands(rt: LibcRuntime) -> Result<(), Fail> {
+    let heap = rt.alloc();
+    let args = [row(option(b"s"))];
+    let groups: [GroupRow<'static>; 0] = [];
+    let s = SubcommandRow::new(b"s");
+    let t = SubcommandRow::new(b"t");
+    let also_t = SubcommandRow {
+        aliases: &[b"t"],
+        ..s
+    };
+    let also_s = SubcommandRow {
+        aliases: &[b"s"],
+        ..t
+    };
     let subcommands = [also_t, also_s];
     expect(
         heap,

@@ -21,6 +21,7 @@ use Rattle.rules.specs.declared.rule.Rule.{Rule}
 use Rattle.rules.specs.declared.rule.Rule.the-variants.{OpenBeforeOptional, MultipleElsewhere, TooManyMultiple}
 use Rattle.rules.specs.declared.breach.Breach.{Breach}
 use Rattle.rules.specs.Order.{each, blocks, when}
+use Rattle.rules.proofs.TidyPlaces.{length-each}
 use Rattle.rules.specs.Words.{Owner, owners, of-subcommand, of-argument, indices, position-count}
 use Rattle.rules.specs.Rows.{ItemRow, own-item, missing-item, ArgRow, own, own-conflict, own-bit, later, items, whole, GroupRow, later-group, with-argument, missing-name, Section, of-the-form, by-argument, by-subcommand, by-group, by-long-flag, by-letter-flag, by-subcommand-name, at-ends, by-position, reference-lists, group-rows, arg-rows, trailing-rows, sections, flags, both-ends, ends-at, ends, first-at, highest, multiple-elsewhere, open-before-optional, multiple-low, too-many-wide}
 use Rattle.rules.specs.Report.{item-report, arg-report, group-report, flags-report, long-flags, letter-flags, called, names-report, taken-report, down, position-report, section-report, breaches}
@@ -170,10 +171,6 @@ owners-few f h =
     all-append Owner-few (each of-subcommand 0 (f .subcommands)) (each of-argument 0 (f .args))
     (all-each Subcommand-few Owner-few of-subcommand (λ n s u. (omega arith, omega arith)) 0 (f .subcommands) (all-summed subcommand-items 1024 (f .subcommands) (omega (arith, h .items))))
     (all-each Arg-few Owner-few of-argument (λ n a u. (omega arith, omega arith)) 0 (f .args) (all-summed arg-items 1024 (f .args) (omega (arith, h .items))))
-
-length-each : {A X : Type 0} (g : ℕ → A → X) (n : ℕ) (xs : List A) → length (each g n xs) ≡ length xs
-length-each g n [] = refl
-length-each g n (x ∷ xs) = ap suc (length-each g (suc n) xs)
 
 owner-count : (f : Form) → Fits f → length (owners f) ≤ 112
 owner-count f h = simp length-append (omega (arith, length-each of-subcommand 0 (f .subcommands), length-each of-argument 0 (f .args), h .args, h .subcommands))

@@ -20,18 +20,12 @@ use Rattle.rules.specs.Report.{breaches}
 use Rattle.rules.proofs.Lists.{report-lists}
 use Rattle.rules.proofs.Tidied.{empty-means-tidy}
 use Rattle.rules.specs.Tidy.{Tidy}
-use Rattle.survey.specs.Sinks.{fold, bump, keep, put}
+use Rattle.survey.specs.Sinks.{fold, bump, keep, put, counted-exactly}
 use Rattle.report.specs.Answers.{report-answer, reported, first-of}
 use Rattle.report.specs.declared.short.ListShort.{ListShort}
 
-counted : (n : ℕ) (bs : List Breach) → n + length bs < 2 ^ 64 → fold bump n bs ≡ n + length bs
-counted n [] h = omega arith
-counted n (b ∷ bs) h =
-    let room : n < 2 ^ 64 - 1 = omega arith in
-    rw (lt-ltb n (2 ^ 64 - 1) room) (counted (n + 1) bs (omega arith) ∙ omega arith)
-
 pub count-is : (bs : List Breach) → length bs < 2 ^ 64 → fold bump 0 bs ≡ length bs
-count-is bs h = counted 0 bs (omega arith) ∙ omega arith
+count-is bs h = counted-exactly 0 bs (omega arith) ∙ omega arith
 
 set-seam : (pre : List Breach) (x b : Breach) (rest : List Breach) → set (pre ++ (x ∷ rest)) (length pre) b ≡ pre ++ (b ∷ rest)
 set-seam [] x b rest = refl
