@@ -1,6 +1,6 @@
 -- Attaching, over the marked form.
 use Rattle.std.proofs.Common.{◌≡◌, ℕ, ◌<◌, ◌≤◌, Bool, true, false, List, [], ◌∷◌, ◌++◌, map, length, Some, Ok, Err, sym, refl, ap, ◌∙◌, arith, le-leb}
-use borrow.Author.Tests.{lt_leb}
+use borrow.Author.Tests.{lt-leb}
 use Rattle.std.proofs.lemmas.List.{map_push}
 use Rattle.form.specs.Lists.{list_numbered}
 use Rattle.form.specs.declared.lists.ItemList.{ItemList}
@@ -36,7 +36,7 @@ pub attach_taken : (m : MarkedForm) (rows : List Row) (k n : ℕ) (l : ItemList)
     × (record { settings = m.settings; args = m.args; groups = m.groups; subcommands = m.subcommands; rows = rows; next = m.next } ≡ attached m k n x)
 attach_taken m rows k n l x y a room more =
     let good = good_taken (good_item x) x y (item_refusal x) a.taken in
-    rw (more, good.1, sym a.has, sym a.list, sym a.fits, good.0, lt_leb _ _ room) (refl, refl)
+    rw (more, good.1, sym a.has, sym a.list, sym a.fits, good.0, lt-leb _ _ room) (refl, refl)
 
 pub rows_push : (rs more : List ItemRow) (r : ItemRow) → more ≡ rs ++ r ∷ [] → map row_held more ≡ map row_held rs ++ row_held r ∷ []
 rows_push rs more r is = ap (map row_held) is ∙ map_push row_held rs r

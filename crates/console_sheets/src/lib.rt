@@ -1,4 +1,5 @@
 //! What the desk says of a sheet: its faults, its report, an argument that is sought, and the whole form as text.
+#![tactic(auto)]
 mod check;
 mod seek;
 mod shown;

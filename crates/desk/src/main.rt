@@ -1,4 +1,5 @@
 //! The order desk: a thin program over the libraries. It reads files, and prints what `console` says.
+#![tactic(auto)]
 mod commands;
 mod files;
 mod options;

@@ -1,4 +1,5 @@
 //! Examples that are proved, and examples that are run.
+#![tactic(auto)]
 mod forms;
 mod layered;
 mod small;

@@ -1,6 +1,6 @@
 -- The first key that is the one sought.
 use Rattle.std.proofs.Common.{◌≡◌, ℕ, zero, suc, ◌+◌, ◌<◌, ◌≤◌, Bool, true, false, cond, List, [], ◌∷◌, length, drop, Some, None, Ok, Err, Option, Result, sym, refl, ap, ◌∙◌, subst, add-one, arith, eq-eqb, eqb-true}
-use lib.Seq.{drop_nil}
+use lib.Seq.{drop-nil}
 use borrow.Author.Tests.{clash}
 use Rattle.std.specs.Option.{ok_or}
 use Rattle.std.specs.List.{slice_get}
@@ -23,7 +23,7 @@ pub first_no : (s : KeyName) (i : ℕ) (ks : List Key) (k : Key) (b : Bool) → 
 first_no s i ks k b e m t = rw (drop_key i ks k e, ← m, t, add-one)
 
 pub first_none : (s : KeyName) (i : ℕ) (ks : List Key) → None ≡ slice_get ks i → first_key s (drop i ks) ≡ None
-first_none s i [] e = rw drop_nil
+first_none s i [] e = rw drop-nil
 first_none s zero (x ∷ ks) e = absurd (let z : ◌≡◌ {A = ℕ} 0 1 = cc in omega arith)
 first_none s (suc i) (x ∷ ks) e = first_none s i ks e
 

@@ -1,4 +1,5 @@
 //! Finding an argument by one of its keys, in any keyed form.
+#![tactic(auto)]
 mod by_kind;
 mod search;
 

@@ -1,5 +1,5 @@
 -- What the small types need: ranges that accept one number, and names of a good length.
-use Rattle.std.proofs.Common.{◌≡◌, ℕ, ◌≤◌, cond, List, length, Ok, sym, refl, ◌∙◌, arith, le-ltb, ne_eqb}
+use Rattle.std.proofs.Common.{◌≡◌, ℕ, ◌≤◌, List, length, Ok, sym, ◌∙◌, arith, le-ltb, ne_eqb}
 use Rattle.form.specs.Model.{Range}
 use Rattle.form.specs.Ranges.{Only}
 use Rattle.form.specs.Names.{name_of}

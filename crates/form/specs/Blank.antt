@@ -1,5 +1,5 @@
 -- Records that are blank but for their name.
-use Rattle.std.specs.Prelude.{false, [], None}
+use Rattle.std.specs.Prelude.{false, None}
 use Rattle.form.specs.Model.{Name}
 use Rattle.form.specs.Shown.{ArgRecord, SubcommandRecord}
 use Rattle.form.specs.declared.action.ArgAction.TheVariants.{Set}

@@ -1,5 +1,5 @@
 -- The fifteen lists of items: their numbers, whose they are, and what they hold.
-use Rattle.std.specs.Prelude.{ℕ, cond, List, [], ◌∷◌, Some, None, Option, ◌==◌, slice_index_or}
+use Rattle.std.specs.Prelude.{ℕ, cond, List, [], Some, None, Option, ◌==◌, slice_index_or}
 use Rattle.form.specs.Model.{Name, Arg, Form, blank_arg, blank_group, blank_subcommand}
 use Rattle.form.specs.declared.lists.EntryKind.{EntryKind}
 use Rattle.form.specs.declared.lists.EntryKind.TheVariants.{Argument, Group, Subcommand}

@@ -1,9 +1,7 @@
 -- What an order form is. Every book, sheet and table of definitions means one of these; all contracts speak of it.
-use Rattle.std.specs.Prelude.{ℕ, ◌+◌, ◌≤◌, Bool, true, false, List, [], ◌∷◌, length, get_or, Some, None, Option}
+use Rattle.std.specs.Prelude.{ℕ, Bool, false, List, [], None, Option}
 use Rattle.form.specs.declared.action.ArgAction.{ArgAction}
 use Rattle.form.specs.declared.action.ArgAction.TheVariants.{Set}
-use Rattle.form.specs.declared.lists.ItemList.{ItemList}
-use Rattle.form.specs.declared.lists.ItemList.TheVariants.{Requires, RIfs, RIfsAll, RUnless, RUnlessAll, Conflicts, Overrides, LongAliases, LetterAliases, Members, GroupRequires, GroupConflicts, SubcommandAliases, LongFlagAliases, LetterFlagAliases}
 
 -- a name is a list of bytes
 abbrev pub Name : Type 0

@@ -1,13 +1,12 @@
 -- What the views of a source stand for. A view shows an entry's record; its lists are asked for apart.
-use Rattle.std.specs.Prelude.{ℕ, Bool, List, [], Option}
+use Rattle.std.specs.Prelude.{ℕ, Bool, Option}
 use Rattle.std.specs.Option.{option_map}
-use Rattle.form.specs.Model.{Name, Range, Arg, Group, Subcommand}
+use Rattle.form.specs.Model.{Name, Range, Arg, Subcommand}
 use Rattle.form.specs.Bounds.{bounds}
 use Rattle.form.specs.Keys.{KeyName, position, letter, long}
 use Rattle.form.specs.Keys as keys
 use Rattle.form.specs.declared.action.ArgAction.{ArgAction}
 use Rattle.form.specs.declared.views.ArgView.{ArgView}
-use Rattle.form.specs.declared.views.GroupView.{GroupView}
 use Rattle.form.specs.declared.views.SubcommandView.{SubcommandView}
 use Rattle.form.specs.declared.views.KeyType.{KeyType}
 use Rattle.form.specs.declared.views.KeyType.TheVariants.{Position, Short, Long}

@@ -1,4 +1,6 @@
 //! The vocabulary of an order form: the small types that every other crate speaks in.
+#![tactic(auto)]
+
 mod action;
 mod app_settings;
 mod arg_settings;

@@ -1,4 +1,5 @@
 //! Layers: keyed forms that lie over a keyed form.
+#![tactic(auto)]
 mod flag;
 mod standard_flags;
 

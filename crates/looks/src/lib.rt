@@ -1,4 +1,6 @@
 //! What the rules look at in one argument.
+#![tactic(auto)]
+
 mod args;
 
 pub use args::{

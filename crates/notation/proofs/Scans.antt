@@ -1,6 +1,6 @@
 -- One step of each scan: a digit more, a place further.
 use Rattle.std.proofs.Common.{◌≡◌, ℕ, zero, suc, ◌+◌, ◌-◌, ◌<◌, ◌≤◌, Bool, true, false, cond, ◌&&◌, eqb, ◌⊎◌, List, [], ◌∷◌, length, get_or, take, drop, Some, None, Option, sym, refl, ap, ◌∙◌, inl, inr, add-one, arith, drop-cons, eq-eqb, ne_eqb}
-use lib.Seq.{drop_nil}
+use lib.Seq.{drop-nil}
 use Rattle.std.proofs.lemmas.List.{drop_all, take_rest}
 use Rattle.std.proofs.lemmas.Bool.{cases_eq}
 use Rattle.notation.specs.Numbers.{more_digits, number_from, number_in, count_written}
@@ -43,7 +43,7 @@ dots_further s j i e h ne =
 
 pub dots_end : (s : List ℕ) (i p : ℕ) → length s ≤ i + 1 → dots_from p (drop i s) ≡ None
 unfolding dots_from
-dots_end [] i p h = rw drop_nil
+dots_end [] i p h = rw drop-nil
 dots_end (a ∷ []) zero p h = refl
 dots_end (a ∷ (b ∷ cs)) zero p h = absurd (omega arith)
 dots_end (a ∷ s) (suc i) p h = dots_end s i p (omega arith)

@@ -1,4 +1,5 @@
 //! How people write the small values: lines, ranges and numbers, as text.
+#![tactic(auto)]
 mod lines;
 mod number;
 mod range_text;

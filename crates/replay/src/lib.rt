@@ -1,4 +1,5 @@
 //! Runs of calls on one book, and the law over a whole run.
+#![tactic(auto)]
 mod answer;
 mod ask;
 mod book_held;

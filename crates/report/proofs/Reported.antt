@@ -1,6 +1,6 @@
 -- From what the sinks hold to what report and first answer.
 use Rattle.std.proofs.Common.{◌≡◌, ℕ, zero, suc, ◌+◌, ◌-◌, ◌^◌, ◌<◌, ◌≤◌, Bool, true, false, cond, ltb, List, [], ◌∷◌, ◌++◌, length, take, drop, set, Some, None, Ok, Err, Option, Result, sym, refl, ap, ◌∙◌, subst, append_assoc, append-nil, arith, length-append, le-ltb, lt-ltb}
-use lib.Seq.{take_append_seam}
+use lib.Seq.{take-append_seam}
 use Rattle.form.specs.Model.{Form}
 use Rattle.rules.specs.declared.breach.Breach.{Breach}
 use Rattle.rules.specs.Order.{Member}
@@ -71,7 +71,7 @@ module _ (f : Form) (room : List Breach) (n : ℕ) (is : n ≡ length (breaches 
   long_lists after k h e o =
       let le : length (breaches f) ≤ length room = omega arith in
       let q : k ≡ length (breaches f) = let m : n ≡ k = cc in sym m ∙ is in
-      let t : take k after ≡ breaches f = rw (q, e, fill_is room (breaches f) le) (take_append_seam (breaches f) _) in
+      let t : take k after ≡ breaches f = rw (q, e, fill_is room (breaches f) le) (take-append_seam (breaches f) _) in
       rw t (report_lists f)
 
   pub long_tidy : ◌≡◌ {A = Result ℕ ListShort} (Ok n) (Ok 0) → Tidy f
@@ -86,7 +86,7 @@ all_is f room after rest n len is fits e FilledIn =
     let le : length (breaches f) ≤ length room = omega arith in
     let front : after ++ rest ≡ breaches f ++ (drop (length (breaches f)) room ++ rest)
     = ap (λ l. l ++ rest) (FilledIn ∙ fill_is room (breaches f) le) ∙ append_assoc (breaches f) _ rest in
-    ap (λ k. take k (after ++ rest)) (e ∙ is) ∙ ap (take (length (breaches f))) front ∙ take_append_seam (breaches f) _
+    ap (λ k. take k (after ++ rest)) (e ∙ is) ∙ ap (take (length (breaches f))) front ∙ take-append_seam (breaches f) _
 
 pub all_lists : (f : Form) (bs : List Breach) → bs ≡ breaches f → Lists f bs
 all_lists f bs e = rw e (report_lists f)

@@ -1,4 +1,5 @@
 //! The public calls on a form's breaches: all of them in a list, or the first.
+#![tactic(auto)]
 mod calls;
 mod short;
 

@@ -1,4 +1,6 @@
 //! What a breach is: the rules, what each tells, the order of a report, and the theorems about them.
+#![tactic(auto)]
+
 mod breach;
 mod laws;
 mod meaning;

@@ -1,6 +1,6 @@
 -- A byte more in 33 places.
 use Rattle.std.proofs.Common.{◌≡◌, ℕ, ◌+◌, ◌<◌, ◌≤◌, List, [], ◌∷◌, ◌++◌, length, take, set, sym, refl, ap, ◌∙◌, add-one, arith, length-append, length-take, take_all, take-suc-set}
-use lib.Seq.{take_append_le}
+use lib.Seq.{take-append-le}
 
 pub push_fits : (bs : List ℕ) (n b : ℕ) → n < length bs → n < 33 → take (n + 1) (set bs n b) ≡ take 33 (take n bs ++ (b ∷ []))
 push_fits bs n b h l =
@@ -11,4 +11,4 @@ pub push_full : (bs : List ℕ) (n b : ℕ) → 33 ≤ n → n ≤ 33 → length
 push_full bs n b h l e =
     let many : 33 ≤ length (take n bs) = simp length-take (omega arith) in
     let few : length (take n bs) ≤ 33 = simp length-take (omega arith) in
-    sym (take_append_le 33 (take n bs) (b ∷ []) many ∙ take_all 33 (take n bs) few)
+    sym (take-append-le 33 (take n bs) (b ∷ []) many ∙ take_all 33 (take n bs) few)

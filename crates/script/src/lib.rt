@@ -1,4 +1,5 @@
 //! Scripts: calls on a book as people write them, one a line.
+#![tactic(auto)]
 mod fault;
 mod fields;
 mod line;

@@ -1,6 +1,6 @@
 -- Walks over the places of a list that offer what each element tells, and parts that follow one another.
 use Rattle.std.proofs.Common.{◌≡◌, ℕ, suc, ◌+◌, ◌-◌, ◌<◌, ◌≤◌, Bool, true, false, not, List, [], ◌∷◌, ◌++◌, length, get_or, drop, sym, refl, ap, ◌∙◌, subst, add-zero, add-suc, suc-add, add-one, arith, length-drop, get_or-drop, drop-cons}
-use borrow.Author.Tests.{not_false}
+use borrow.Author.Tests.{not-false}
 use Rattle.std.specs.List.{range_with_len}
 use Rattle.std.proofs.lemmas.List.FromFn.{length-range_with_len}
 use Rattle.std.proofs.lemmas.List.{drop_all}
@@ -73,4 +73,4 @@ then_stop after more s t xs ys stays a = more s t t xs ys a (stays ys)
 
 -- a refusal to go on says that the sink is full
 pub stopped : (r f : Bool) → r ≡ not f → r ≡ false → f ≡ true
-stopped r f goes e = not_false f (sym goes ∙ e)
+stopped r f goes e = not-false f (sym goes ∙ e)

@@ -1,4 +1,6 @@
 //! What breaches are offered to, how each is told, and the search for pairs.
+#![tactic(auto)]
+
 mod offers;
 mod same;
 mod sink;

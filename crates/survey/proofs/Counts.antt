@@ -1,6 +1,6 @@
 -- The indices of a table of arguments, counted from the front.
 use Rattle.std.proofs.Common.{◌≡◌, ℕ, ◌+◌, ◌<◌, ◌≤◌, max, List, [], ◌∷◌, ◌++◌, length, get_or, drop, Some, None, Option, sym, refl, ap, ◌∙◌, zero-add, add-one, arith, drop-cons}
-use native.Mathlib.Nat.{max_zero, max_comm}
+use native.Mathlib.Nat.{max-zero, max_comm}
 use Rattle.std.proofs.lemmas.List.{drop_all}
 use Rattle.form.specs.Model.{Arg, blank_arg}
 use Rattle.rules.specs.Words.{indices}
@@ -19,7 +19,7 @@ pub counted_none : (xs : List Arg) → Counted xs 0 0 0
 counted_none xs = record { few = omega arith; count = zero-add (length (indices xs)); highest = zero_max (top (indices xs)) }
   where
     zero_max : (n : ℕ) → max 0 n ≡ n
-    zero_max n = max_comm 0 n ∙ max_zero n
+    zero_max n = max_comm 0 n ∙ max-zero n
 
 pub counted_skip : (xs : List Arg) (i n h : ℕ) → i < length xs → (get_or xs i blank_arg).index ≡ None → Counted xs i n h → Counted xs (i + 1) n h
 counted_skip xs i n h lt e c =
@@ -38,4 +38,4 @@ counted_more xs i n h k lt e c =
 pub counted_all : (xs : List Arg) (i n h : ℕ) → length xs ≤ i → Counted xs i n h → (n ≡ length (indices xs)) × (h ≡ top (indices xs))
 counted_all xs i n h le c =
     let rest : indices (drop i xs) ≡ [] = rw drop_all in
-    (omega (arith, ap length rest, c.count), sym (max_zero h) ∙ ap (λ l. max h (top l)) (sym rest) ∙ c.highest)
+    (omega (arith, ap length rest, c.count), sym (max-zero h) ∙ ap (λ l. max h (top l)) (sym rest) ∙ c.highest)

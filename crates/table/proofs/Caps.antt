@@ -1,6 +1,6 @@
 -- Counts that stop at the largest number, and the limit on items.
 use Rattle.std.proofs.Common.{◌≡◌, ℕ, zero, suc, ◌+◌, ◌<◌, ◌≤◌, min, Bool, true, false, ◌&&◌, leb, ◌⊎◌, List, [], ◌∷◌, map, length, get_or, take, sym, refl, ap, ◌∙◌, inl, inr, add-one, arith, Bor, le-leb, leb-false, leb-true}
-use borrow.Author.Tests.{lt_leb}
+use borrow.Author.Tests.{lt-leb}
 use Rattle.std.proofs.lemmas.List.{length-map}
 use Rattle.form.specs.Limits.{arg_items, group_items, subcommand_items, summed}
 use Rattle.table.specs.Capped.{capped}
@@ -73,14 +73,14 @@ pub same_leb : (a b : ℕ) → a ≡ capped b → leb a 1024 ≡ leb b 1024
 same_leb a b e = go (leb b 1024) refl where
   go : (t : Bool) → leb b 1024 ≡ t → leb a 1024 ≡ leb b 1024
   go true h = le-leb a 1024 (omega (arith, leb-true b 1024 h)) ∙ sym h
-  go false h = lt_leb a 1024 (omega (arith, leb-false b 1024 h)) ∙ sym h
+  go false h = lt-leb a 1024 (omega (arith, leb-false b 1024 h)) ∙ sym h
 
 -- a table too long: the test fails
 pub too_long : (a g s : ℕ) (t : Bool) → (80 < a) ⊎ (((a ≤ 80) × (16 < g)) ⊎ ((a ≤ 80) × (g ≤ 16) × (32 < s)))
     → false ≡ (leb a 80 && (leb g 16 && (leb s 32 && t)))
-too_long a g s t (inl x) = rw (lt_leb a 80 x)
-too_long a g s t (inr (inl x)) = rw (le-leb a 80 x.0, lt_leb g 16 x.1)
-too_long a g s t (inr (inr x)) = rw (le-leb a 80 x.0, le-leb g 16 x.1, lt_leb s 32 x.2)
+too_long a g s t (inl x) = rw (lt-leb a 80 x)
+too_long a g s t (inr (inl x)) = rw (le-leb a 80 x.0, lt-leb g 16 x.1)
+too_long a g s t (inr (inr x)) = rw (le-leb a 80 x.0, le-leb g 16 x.1, lt-leb s 32 x.2)
 
 -- no table too long: the items decide
 pub items_decide : (a g s : ℕ) (t : Bool) → a ≤ 80 → g ≤ 16 → s ≤ 32 → t ≡ (leb a 80 && (leb g 16 && (leb s 32 && t)))

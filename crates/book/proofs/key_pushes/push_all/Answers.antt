@@ -7,8 +7,8 @@ use Rattle.book.specs.KeyRows.{key_held}
 use Rattle.book.proofs.Fills.{keys_here, keys_past, part_pushed, part_room, none_left}
 use Rattle.book.proofs.key_pushes.push_all.Goals as goal
 
-pub push-arg-requires : goal.push-arg-requires
-push-arg-requires c =
+pub push_arg-requires : goal.push_arg-requires
+push_arg-requires c =
     let rs = map row_held c.args.rows.now in
     let xs = c.args.args.now in
     let i = c.loop-place.place in
@@ -22,7 +22,7 @@ loop-place-preserved c =
     let rs = map row_held c.args.rows.now in
     let xs = c.args.args.now in
     let i = c.loop-place.place in
-    (part_pushed _ _ _ _ _ _ (keys_here (held arg_held) (arg_entry rs) xs i c.index-args-place.result c.loop-place-test.true c.index-args-place.is) c.push-arg.ensures.items c.loop-place.invariant.0, c.push-arg.ensures.capacity ∙ c.loop-place.invariant.1)
+    (part_pushed _ _ _ _ _ _ (keys_here (held arg_held) (arg_entry rs) xs i c.index-args-place.result c.loop-place-test.true c.index-args-place.is) c.push_arg.ensures.items c.loop-place.invariant.0, c.push_arg.ensures.capacity ∙ c.loop-place.invariant.1)
 
 pub returns : goal.returns
 returns c =

@@ -9,8 +9,8 @@ use Rattle.book.specs.KeyRows.{key_held, keyed_at}
 use Rattle.book.proofs.Fills.{letter_keys, letter_key, letters_keyed, keyed_long, listed_long, mapped_listed, fill_more, fill_all, fill_room}
 use Rattle.book.proofs.key_pushes.push_letters.Goals as goal
 
-pub push-letter-requires : goal.push-letter-requires
-push-letter-requires c =
+pub push_letter-requires : goal.push_letter-requires
+push_letter-requires c =
     let k = c.args.mark in
     let p = c.args.place in
     let ks = vec_items c.loop-row.keys in
@@ -26,8 +26,8 @@ push-letter-requires c =
       c.loop-row.keys.ok.0,
       c.args.keys.now.ok.0,
       keyed_long (keyed_at p) letter (letters_in k LetterAliases (map row_held c.args.rows.now)),
-      ap (λ o. length (listed (option_map (keyed_at p) (option_map letter o)))) c.letter-in.ensures,
-      listed_long (keyed_at p) letter c.letter-in.result,
+      ap (λ o. length (listed (option_map (keyed_at p) (option_map letter o)))) c.letter_in.ensures,
+      listed_long (keyed_at p) letter c.letter_in.result,
     )
 
 pub loop-row-preserved : goal.loop-row-preserved
@@ -35,9 +35,9 @@ loop-row-preserved c =
     let k = c.args.mark in
     let p = c.args.place in
     let ks = map key_held (vec_items c.loop-row.keys) in
-    let pushed = c.push-letter.ensures.items ∙ ap (λ l. ks ++ l) (mapped_listed (keyed_at p) letter _ ∙ ap (λ o. listed (option_map (keyed_at p) (option_map letter o))) c.letter-in.ensures) in (
+    let pushed = c.push_letter.ensures.items ∙ ap (λ l. ks ++ l) (mapped_listed (keyed_at p) letter _ ∙ ap (λ o. listed (option_map (keyed_at p) (option_map letter o))) c.letter_in.ensures) in (
       fill_more (letter_keys k p) (letter_key k p) (letters_keyed k p) c.args.rows.now c.loop-row.row-index c.row-item.result ks _ _ c.loop-row-test.true c.row-item.is pushed c.loop-row.invariant.0,
-      c.push-letter.ensures.capacity ∙ c.loop-row.invariant.1,
+      c.push_letter.ensures.capacity ∙ c.loop-row.invariant.1,
     )
 
 pub returns : goal.returns

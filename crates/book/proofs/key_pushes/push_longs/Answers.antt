@@ -10,8 +10,8 @@ use Rattle.book.specs.KeyRows.{key_held, keyed_at}
 use Rattle.book.proofs.Fills.{long_keys, long_key, longs_keyed, keyed_long, listed_long, mapped_listed, fill_more, fill_all, fill_room}
 use Rattle.book.proofs.key_pushes.push_longs.Goals as goal
 
-pub push-long-requires : goal.push-long-requires
-push-long-requires c =
+pub push_long-requires : goal.push_long-requires
+push_long-requires c =
     let k = c.args.mark in
     let p = c.args.place in
     let ks = vec_items c.loop-row.keys in
@@ -27,8 +27,8 @@ push-long-requires c =
       c.loop-row.keys.ok.0,
       c.args.keys.now.ok.0,
       keyed_long (keyed_at p) long (names_in k LongAliases (map row_held c.args.rows.now)),
-      ap (λ o. length (listed (option_map (keyed_at p) (option_map long o)))) c.held-name.ensures,
-      listed_long (keyed_at p) long (option_map name_bytes c.held-name.result),
+      ap (λ o. length (listed (option_map (keyed_at p) (option_map long o)))) c.held_name.ensures,
+      listed_long (keyed_at p) long (option_map name_bytes c.held_name.result),
     )
 
 pub loop-row-preserved : goal.loop-row-preserved
@@ -36,9 +36,9 @@ loop-row-preserved c =
     let k = c.args.mark in
     let p = c.args.place in
     let ks = map key_held (vec_items c.loop-row.keys) in
-    let pushed = c.push-long.ensures.items ∙ ap (λ l. ks ++ l) (mapped_listed (keyed_at p) long _ ∙ ap (λ o. listed (option_map (keyed_at p) (option_map long o))) c.held-name.ensures) in (
+    let pushed = c.push_long.ensures.items ∙ ap (λ l. ks ++ l) (mapped_listed (keyed_at p) long _ ∙ ap (λ o. listed (option_map (keyed_at p) (option_map long o))) c.held_name.ensures) in (
       fill_more (long_keys k p) (long_key k p) (longs_keyed k p) c.args.rows.now c.loop-row.row-index c.row-item.result ks _ _ c.loop-row-test.true c.row-item.is pushed c.loop-row.invariant.0,
-      c.push-long.ensures.capacity ∙ c.loop-row.invariant.1,
+      c.push_long.ensures.capacity ∙ c.loop-row.invariant.1,
     )
 
 pub returns : goal.returns

@@ -6,16 +6,16 @@ use Rattle.book_tables.specs.Rows.{row_name}
 use Rattle.book_tables.proofs.Walks.{names_gather, some_mapped, count_more, count_all, byte_few}
 use Rattle.book_tables.proofs.rows.count_names.Goals as goal
 
-pub overflow-add-count : goal.overflow-add-count
-overflow-add-count c = omega (arith, c.from-count.ensures, byte_few c.is-some.result, c.loop-row.invariant.1)
+pub overflow_add-count : goal.overflow_add-count
+overflow_add-count c = omega (arith, c.from-count.ensures, byte_few c.is_some.result, c.loop-row.invariant.1)
 
 pub loop-row-preserved : goal.loop-row-preserved
 loop-row-preserved c =
     let k = c.args.mark in
     let l = c.args.list in
-    let one = c.from-count.ensures ∙ ap bool_byte (c.is-some.ensures ∙ some_mapped (λ x. x.now) c.name-in.result _ c.name-in.ensures) in (
+    let one = c.from-count.ensures ∙ ap bool_byte (c.is_some.ensures ∙ some_mapped (λ x. x.now) c.name_in.result _ c.name_in.ensures) in (
       count_more (λ rs. names_in k l (map row_held rs)) (λ r. row_name k l (row_held r)) (names_gather k l) c.args.rows.now c.loop-row.row-index c.row-item.result c.loop-row.count _ _ c.loop-row-test.true c.row-item.is one c.loop-row.invariant.0,
-      omega (arith, c.from-count.ensures, byte_few c.is-some.result, c.loop-row.invariant.1),
+      omega (arith, c.from-count.ensures, byte_few c.is_some.result, c.loop-row.invariant.1),
     )
 
 pub returns : goal.returns

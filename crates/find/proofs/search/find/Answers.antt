@@ -5,11 +5,11 @@ use Rattle.form.specs.declared.refusal.Refusal.TheVariants.{NoSuchKey}
 use Rattle.find.proofs.Firsts.{first_yes, first_no, first_none, first_all, found_as}
 use Rattle.find.proofs.search.find.Goals as goal
 
-pub returns-in-default : goal.returns-in-default
-returns-in-default g c =
+pub returns-in_default : goal.returns-in_default
+returns-in_default g c =
     let ks = keys_of (g.F.FormSource.form c.args.form.now) in
     let s = g.K.KeyKind.key c.args.sought in
-    let e = ap (λ o. ok_or o NoSuchKey) (sym (c.loop-i.invariant ∙ first_none s c.loop-i.i ks c.in-default.ensures)) in
+    let e = ap (λ o. ok_or o NoSuchKey) (sym (c.loop-i.invariant ∙ first_none s c.loop-i.i ks c.in_default.ensures)) in
     record { value = e; means = found_as s ks _ e }
 
 pub returns-then-matches : goal.returns-then-matches

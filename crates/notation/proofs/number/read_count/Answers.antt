@@ -3,4 +3,4 @@ use Rattle.notation.proofs.Scans.{count_hex}
 use Rattle.notation.proofs.number.read_count.Goals as goal
 
 pub returns-in-48 : goal.returns-in-48
-returns-in-48 c = count_hex c.args.text.now _ (search rules) (search rules) c.read-digits.ensures
+returns-in-48 c = count_hex c.args.text.now _ (search rules) (search rules) c.read_digits.ensures

@@ -4,9 +4,9 @@ use Rattle.notation.specs.Read.{end_read}
 use Rattle.notation.proofs.Splits.{end_through}
 use Rattle.notation.proofs.range_text.read_end.Goals as goal
 
-pub returns-in-err-read-number : goal.returns-in-err-read-number
-returns-in-err-read-number c =
-    ap (option_map end_read) c.from-residual.ensures ∙ sym (end_through c.args.text.now _ c.if-text-eq61.true c.in-err-read-number.ensures)
+pub returns-in_err-read_number : goal.returns-in_err-read_number
+returns-in_err-read_number c =
+    ap (option_map end_read) c.from_residual.ensures ∙ sym (end_through c.args.text.now _ c.if-text-eq61.true c.in_err-read_number.ensures)
 
 pub returns-then-text-eq61 : goal.returns-then-text-eq61
-returns-then-text-eq61 c = sym (end_through c.args.text.now _ c.if-text-eq61.true c.in-ok-read-number.ensures)
+returns-then-text-eq61 c = sym (end_through c.args.text.now _ c.if-text-eq61.true c.in_ok-read_number.ensures)

@@ -5,17 +5,17 @@ use Rattle.form.specs.declared.refusal.RangeFault.{RangeFault}
 use Rattle.notation.proofs.Splits.{written_split}
 use Rattle.notation.proofs.range_text.read_range.Goals as goal
 
-pub returns-in-err-start : goal.returns-in-err-start
-returns-in-err-start c =
-    ap (option_map (bounded {E = RangeFault})) c.from-residual-in-err-start.ensures
-    ∙ sym (written_split c.args.text.now c.in-Some.at (c.in-Some.at - 0) (length c.args.text.now) None _ c.in-Some.ensures.value (omega arith) (omega arith) c.in-err-start.ensures refl)
+pub returns-in_err-start : goal.returns-in_err-start
+returns-in_err-start c =
+    ap (option_map (bounded {E = RangeFault})) c.from_residual-in_err-start.ensures
+    ∙ sym (written_split c.args.text.now c.in-Some.at (c.in-Some.at - 0) (length c.args.text.now) None _ c.in-Some.ensures.value (omega arith) (omega arith) c.in_err-start.ensures refl)
 
-pub returns-in-err-end : goal.returns-in-err-end
-returns-in-err-end c =
-    ap (option_map (bounded {E = RangeFault})) c.from-residual-in-err-end.ensures
-    ∙ sym (written_split c.args.text.now c.in-Some.at (c.in-Some.at - 0) _ _ None c.in-Some.ensures.value (omega arith) (omega arith) c.in-ok-start.ensures c.in-err-end.ensures)
+pub returns-in_err-end : goal.returns-in_err-end
+returns-in_err-end c =
+    ap (option_map (bounded {E = RangeFault})) c.from_residual-in_err-end.ensures
+    ∙ sym (written_split c.args.text.now c.in-Some.at (c.in-Some.at - 0) _ _ None c.in-Some.ensures.value (omega arith) (omega arith) c.in_ok-start.ensures c.in_err-end.ensures)
 
 pub returns : goal.returns
 returns c =
-    ap Some c.make-range.ensures
-    ∙ sym (written_split c.args.text.now c.in-Some.at (c.in-Some.at - 0) _ _ _ c.in-Some.ensures.value (omega arith) (omega arith) c.in-ok-start.ensures c.in-ok-end.ensures)
+    ap Some c.make_range.ensures
+    ∙ sym (written_split c.args.text.now c.in-Some.at (c.in-Some.at - 0) _ _ _ c.in-Some.ensures.value (omega arith) (omega arith) c.in_ok-start.ensures c.in_ok-end.ensures)

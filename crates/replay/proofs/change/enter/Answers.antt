@@ -9,6 +9,6 @@ returns-in-Some c =
     let same = entered_as c.in-Argument.arg _ _ _ c.in-Argument.is c.in-Some.ensures c.record.ensures in
     let m = open_marked c.args.book.now in
     record {
-      answer = c.marked.ensures ∙ ap mark_or c.enter-arg.ensures.answer ∙ ap (open_answer m) same;
-      after = c.enter-arg.ensures.after ∙ ap (open_after m) same;
+      answer = c.marked.ensures ∙ ap mark_or c.enter_arg.ensures.answer ∙ ap (open_answer m) same;
+      after = c.enter_arg.ensures.after ∙ ap (open_after m) same;
     }

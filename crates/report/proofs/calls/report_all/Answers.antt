@@ -8,6 +8,6 @@ returns g c =
     let s = c.args.form.now in
     let f = g.F.FormSource.form s in
     let is = c.count.ensures ∙ count_is _ (few f (g.F.FormSource.fits s)) in
-    let made = c.in-ok-list.ensures.len in
-    let value = all_is f _ _ _ _ _ is (omega (arith, made, c.as-mut-slice.ensures.len)) made c.fill.ensures in
+    let made = c.in_ok-list.ensures.len in
+    let value = all_is f _ _ _ _ _ is (omega (arith, made, c.as_mut_slice.ensures.len)) made c.fill.ensures in
     record { value = value; lists = all_lists f _ value }

@@ -5,7 +5,7 @@ use Rattle.script.proofs.spelling.read_name.Goals as goal
 
 pub loop-rest-preserved : goal.loop-rest-preserved
 loop-rest-preserved c =
-    name_more (held c.loop-rest.name) _ c.loop-rest.rest.now c.in-ok-byte.later.now _ _ c.in-ok-byte.ensures.0 c.push.ensures c.loop-rest.invariant
+    name_more (held c.loop-rest.name) _ c.loop-rest.rest.now c.in_ok-byte.later.now _ _ c.in_ok-byte.ensures.0 c.push.ensures c.loop-rest.invariant
 
 pub returns : goal.returns
 returns c =

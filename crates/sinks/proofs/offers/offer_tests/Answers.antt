@@ -9,15 +9,15 @@ pub loop-broken-preserved : goal.loop-broken-preserved
 loop-broken-preserved g c =
     let k = g.S.Sink in
     walk_step k.after k.more (λ _ t. when t.0 (of_one t.1 c.args.owner)) 0 c.args.tests.now _ _ _ _ c.loop-broken.broken-index (omega arith) c.loop-broken.invariant
-    (rw c.of-one.ensures at c.offer-if.ensures.took)
+    (rw c.of_one.ensures at c.offer_if.ensures.took)
 
-pub returns-then-not-offer-if : goal.returns-then-not-offer-if
-returns-then-not-offer-if g c =
+pub returns-then-not-offer_if : goal.returns-then-not-offer_if
+returns-then-not-offer_if g c =
     let k = g.S.Sink in
-    let full = stopped _ _ c.offer-if.ensures.goes c.if-not-offer-if.true in
+    let full = stopped _ _ c.offer_if.ensures.goes c.if-not-offer_if.true in
     record {
       took = walk_stop k.after k.more (λ _ t. when t.0 (of_one t.1 c.args.owner)) 0 c.args.tests.now _ _ _ _ c.loop-broken.broken-index (λ ys. k.stays _ ys full) (omega arith) c.loop-broken.invariant
-          (rw c.of-one.ensures at c.offer-if.ensures.took);
+          (rw c.of_one.ensures at c.offer_if.ensures.took);
       goes = sym (ap not full);
     }
 
@@ -26,5 +26,5 @@ returns g c =
     let k = g.S.Sink in
     record {
       took = walk_end k.after k.none (λ _ t. when t.0 (of_one t.1 c.args.owner)) 0 c.args.tests.now _ _ c.loop-broken.broken-index (omega arith) c.loop-broken.invariant;
-      goes = ap not c.is-full.ensures;
+      goes = ap not c.is_full.ensures;
     }

@@ -11,7 +11,7 @@ use Rattle.survey.specs.Parts.{rows_told, references, list_told, item_told}
 use Rattle.survey.proofs.Tables.{all_told}
 use Rattle.sinks.proofs.Walks.{walk_step, walk_end, walk_stop, stopped}
 use Rattle.survey.proofs.arguments.survey_arguments.Goals as goal
-use Rattle.survey.proofs.arguments.survey_arguments.Goals.{else-walk-test, then-walk-test+then-not-offer-before-items, then-walk-test+else-not-offer-before-items+then-loop-list-test+then-loop-item-test+then-not-offer-item-rules, then-walk-test+else-not-offer-before-items+else-loop-list-test+then-not-offer-after-rules}
+use Rattle.survey.proofs.arguments.survey_arguments.Goals.{else-walk-test, then-walk-test+then-not-offer_before_items, then-walk-test+else-not-offer_before_items+then-loop-list-test+then-loop-item-test+then-not-offer_item_rules, then-walk-test+else-not-offer_before_items+else-loop-list-test+then-not-offer_after_rules}
 
 pub loop-item-preserved : goal.loop-item-preserved
 loop-item-preserved g c =
@@ -19,7 +19,7 @@ loop-item-preserved g c =
     let f = g.F.FormSource.form c.args.form.now in
     let p = c.walk.place in
     let l = get_or references c.loop-list.list-index Requires in
-    walk_step k.after k.more (λ i x. item_told f p (arg_of f p) l i x) 0 (names_at f l p) [] _ _ _ c.loop-item.item (omega arith) c.loop-item.invariant c.offer-item-rules.ensures.took
+    walk_step k.after k.more (λ i x. item_told f p (arg_of f p) l i x) 0 (names_at f l p) [] _ _ _ c.loop-item.item (omega arith) c.loop-item.invariant c.offer_item_rules.ensures.took
 
 pub loop-list-preserved : goal.loop-list-preserved
 loop-list-preserved g c =
@@ -36,7 +36,7 @@ walk-preserved g c =
     let f = g.F.FormSource.form c.args.form.now in
     let p = c.walk.place in
     let lists = walk_end k.after k.none (λ _ x. list_told f p x) 0 references _ _ c.loop-list.list-index (omega arith) c.loop-list.invariant in
-    let here : k.after c.walk.sink (rows_told f p arg_rows) c.offer-after-rules.new.sink = rw (all_told f p) (k.more _ _ _ _ _ c.offer-before-items.ensures.took (k.more _ _ _ _ _ lists (c.offer-after-rules.ensures.took f c.arg-arg.ensures))) in
+    let here : k.after c.walk.sink (rows_told f p arg_rows) c.offer_after_rules.new.sink = rw (all_told f p) (k.more _ _ _ _ _ c.offer_before_items.ensures.took (k.more _ _ _ _ _ lists (c.offer_after_rules.ensures.took f c.arg-arg.ensures))) in
     walk_step k.after k.more (λ p a. blocks (λ _ r. arg_report f p a r) 0 arg_rows) 0 f.args blank_arg _ _ _ p (omega arith) c.walk.invariant here
 
 pub returns : goal.returns
@@ -52,19 +52,19 @@ returns g c =
     record {
       took = elim c.walk-test.branch [
         | else-walk-test w ↦ rw w.sink-is (walk_end k.after k.none h 0 f.args _ _ p (omega arith) c.walk.invariant)
-        | then-walk-test+then-not-offer-before-items w ↦
-            let full : k.full w.offer-before-items.new.sink ≡ true = stopped _ _ w.offer-before-items.ensures.goes w.if-not-offer-before-items.true in
-            rw w.sink-is (left _ full (omega arith) (rw (all_told f p) (k.more _ _ _ _ _ w.offer-before-items.ensures.took (k.stays _ _ full))))
-        | then-walk-test+else-not-offer-before-items+then-loop-list-test+then-loop-item-test+then-not-offer-item-rules w ↦
-            let full : k.full w.offer-item-rules.new.sink ≡ true = stopped _ _ w.offer-item-rules.ensures.goes w.if-not-offer-item-rules.true in
+        | then-walk-test+then-not-offer_before_items w ↦
+            let full : k.full w.offer_before_items.new.sink ≡ true = stopped _ _ w.offer_before_items.ensures.goes w.if-not-offer_before_items.true in
+            rw w.sink-is (left _ full (omega arith) (rw (all_told f p) (k.more _ _ _ _ _ w.offer_before_items.ensures.took (k.stays _ _ full))))
+        | then-walk-test+else-not-offer_before_items+then-loop-list-test+then-loop-item-test+then-not-offer_item_rules w ↦
+            let full : k.full w.offer_item_rules.new.sink ≡ true = stopped _ _ w.offer_item_rules.ensures.goes w.if-not-offer_item_rules.true in
             let l = get_or references w.loop-list.list-index Requires in
-            let items = walk_stop k.after k.more (λ i x. item_told f p (arg_of f p) l i x) 0 (names_at f l p) [] _ _ _ w.loop-item.item (λ ys. k.stays _ ys full) (omega arith) w.loop-item.invariant w.offer-item-rules.ensures.took in
+            let items = walk_stop k.after k.more (λ i x. item_told f p (arg_of f p) l i x) 0 (names_at f l p) [] _ _ _ w.loop-item.item (λ ys. k.stays _ ys full) (omega arith) w.loop-item.invariant w.offer_item_rules.ensures.took in
             let all = walk_stop k.after k.more lists 0 references Requires _ _ _ w.loop-list.list-index (λ ys. k.stays _ ys full) (omega arith) w.loop-list.invariant items in
-            rw w.sink-is (left _ full (omega arith) (rw (all_told f p) (k.more _ _ _ _ _ w.offer-before-items.ensures.took (k.more _ _ _ _ _ all (k.stays _ _ full)))))
-        | then-walk-test+else-not-offer-before-items+else-loop-list-test+then-not-offer-after-rules w ↦
-            let full : k.full w.offer-after-rules.new.sink ≡ true = stopped _ _ w.offer-after-rules.ensures.goes w.if-not-offer-after-rules.true in
+            rw w.sink-is (left _ full (omega arith) (rw (all_told f p) (k.more _ _ _ _ _ w.offer_before_items.ensures.took (k.more _ _ _ _ _ all (k.stays _ _ full)))))
+        | then-walk-test+else-not-offer_before_items+else-loop-list-test+then-not-offer_after_rules w ↦
+            let full : k.full w.offer_after_rules.new.sink ≡ true = stopped _ _ w.offer_after_rules.ensures.goes w.if-not-offer_after_rules.true in
             let all = walk_end k.after k.none lists 0 references _ _ w.loop-list.list-index (omega arith) w.loop-list.invariant in
-            rw w.sink-is (left _ full (omega arith) (rw (all_told f p) (k.more _ _ _ _ _ w.offer-before-items.ensures.took (k.more _ _ _ _ _ all (w.offer-after-rules.ensures.took f w.arg-arg.ensures)))))
+            rw w.sink-is (left _ full (omega arith) (rw (all_told f p) (k.more _ _ _ _ _ w.offer_before_items.ensures.took (k.more _ _ _ _ _ all (w.offer_after_rules.ensures.took f w.arg-arg.ensures)))))
       ];
-      goes = ap not c.is-full.ensures;
+      goes = ap not c.is_full.ensures;
     }

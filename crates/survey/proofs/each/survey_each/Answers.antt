@@ -33,5 +33,5 @@ returns g c =
     let h = λ (p : ℕ) (a : Arg). tests_told (argument p) (g.R.ArgRules.tests c.args.rules.now (bare (arg_record a))) in
     record {
       took = walk_end k.after k.none h 0 (g.F.FormSource.form c.args.form.now).args _ _ c.loop-place.place (omega arith) c.loop-place.invariant;
-      goes = ap not c.is-full.ensures;
+      goes = ap not c.is_full.ensures;
     }

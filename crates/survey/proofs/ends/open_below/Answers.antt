@@ -5,13 +5,13 @@ use Rattle.looks.specs.Records.{bare}
 use Rattle.survey.proofs.Searches.{some_yes, some_no, some_all}
 use Rattle.survey.proofs.ends.open_below.Goals as goal
 
-pub returns-then-is-open-below : goal.returns-then-is-open-below
-returns-then-is-open-below g c =
+pub returns-then-is_open_below : goal.returns-then-is_open_below
+returns-then-is_open_below g c =
     let args = (g.F.FormSource.form c.args.form.now).args in
     let test = is_open_below c.args.position in
     let i = c.loop-place.place in
     let is : c.is_open_below.result ≡ test (get_or args i blank_arg) = c.is_open_below.ensures ∙ ap (λ r. test (bare r)) c.arg.ensures in
-    sym (some_yes test args i blank_arg (omega arith) (sym is ∙ c.if-is-open-below.true)) ∙ c.loop-place.invariant
+    sym (some_yes test args i blank_arg (omega arith) (sym is ∙ c.if-is_open_below.true)) ∙ c.loop-place.invariant
 
 pub loop-place-preserved : goal.loop-place-preserved
 loop-place-preserved g c =
@@ -19,7 +19,7 @@ loop-place-preserved g c =
     let test = is_open_below c.args.position in
     let i = c.loop-place.place in
     let is : c.is_open_below.result ≡ test (get_or args i blank_arg) = c.is_open_below.ensures ∙ ap (λ r. test (bare r)) c.arg.ensures in
-    sym (some_no test args i blank_arg (omega arith) (sym is ∙ c.if-is-open-below.false)) ∙ c.loop-place.invariant
+    sym (some_no test args i blank_arg (omega arith) (sym is ∙ c.if-is_open_below.false)) ∙ c.loop-place.invariant
 
 pub returns : goal.returns
 returns g c =

@@ -5,18 +5,18 @@ use Rattle.form.specs.Model.{blank_arg}
 use Rattle.rules.specs.Rows.{wide}
 use Rattle.looks.specs.Records.{bare}
 use Rattle.survey.proofs.ends.wide_count.Goals as goal
-use Rattle.survey.proofs.ends.wide_count.Goals.{then-is-wide, else-is-wide}
+use Rattle.survey.proofs.ends.wide_count.Goals.{then-is_wide, else-is_wide}
 
 pub loop-place-preserved : goal.loop-place-preserved
 loop-place-preserved g c =
     let args = (g.F.FormSource.form c.args.form.now).args in
     let i = c.loop-place.place in
     let lt : i < length args = omega arith in
-    let is : c.is-wide.result ≡ wide (get_or args i blank_arg) = c.is-wide.ensures ∙ ap (λ r. wide (bare r)) c.arg.ensures in
+    let is : c.is_wide.result ≡ wide (get_or args i blank_arg) = c.is_wide.ensures ∙ ap (λ r. wide (bare r)) c.arg.ensures in
     let more = rw (← is) at (length-filter_more wide args i blank_arg lt) in
-    elim c.if-is-wide.branch [
-      | then-is-wide w ↦ let e = rw w.if-is-wide.true at more in (omega (arith, e, w.count_is, c.loop-place.invariant.0), omega (arith, w.count_is, c.loop-place.invariant.1))
-      | else-is-wide w ↦ let e = rw w.if-is-wide.false at more in (omega (arith, e, w.count_is, c.loop-place.invariant.0), omega (arith, w.count_is, c.loop-place.invariant.1))
+    elim c.if-is_wide.branch [
+      | then-is_wide w ↦ let e = rw w.if-is_wide.true at more in (omega (arith, e, w.count_is, c.loop-place.invariant.0), omega (arith, w.count_is, c.loop-place.invariant.1))
+      | else-is_wide w ↦ let e = rw w.if-is_wide.false at more in (omega (arith, e, w.count_is, c.loop-place.invariant.0), omega (arith, w.count_is, c.loop-place.invariant.1))
     ]
 
 pub returns : goal.returns

@@ -3,8 +3,8 @@ use Rattle.survey.specs.FlagOwners.{owner_in}
 use Rattle.survey.proofs.Clashes.{same_mapped, same_absent, flag_alias, flag_past}
 use Rattle.survey.proofs.flag_kinds.flag.Goals as goal
 
-pub returns-then-number-alias-count : goal.returns-then-number-alias-count
-returns-then-number-alias-count g c =
+pub returns-then-number-alias_count : goal.returns-then-number-alias_count
+returns-then-number-alias_count g c =
     let k = g.K.FlagKind in
     let o = owner_in (k.form c.args.kind.now) c.args.owner in
     let n = c.args.number in
@@ -13,8 +13,8 @@ returns-then-number-alias-count g c =
       value = ap (λ y. Some y) c.alias.ensures.value ∙ flag_alias (k.own o) (k.aliases o) n (n - 1) k.blank (omega arith) (omega arith);
     }
 
-pub returns-else-number-alias-count : goal.returns-else-number-alias-count
-returns-else-number-alias-count g c =
+pub returns-else-number-alias_count : goal.returns-else-number-alias_count
+returns-else-number-alias_count g c =
     let k = g.K.FlagKind in
     let o = owner_in (k.form c.args.kind.now) c.args.owner in
     let n = c.args.number in

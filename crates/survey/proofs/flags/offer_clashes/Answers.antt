@@ -14,7 +14,7 @@ returns-then-not-differ g c =
     let is : c.differ.result ≡ differ o w = c.differ.ensures ∙ ap (λ h. differ (owner_in h c.args.one) (owner_in h c.args.other)) c.source.ensures in
     record {
       took = rw (clash_none k.same c.args.rule o c.args.item _ w (flags_in k.own k.aliases w) (sym is ∙ c.if-not-differ.true)) (g.S.Sink.none _);
-      goes = ap not c.is-full.ensures;
+      goes = ap not c.is_full.ensures;
     }
 
 pub returns : goal.returns
@@ -24,6 +24,6 @@ returns g c =
     let o = owner_in f c.args.one in
     let w = owner_in f c.args.other in
     let is : c.differ.result ≡ differ o w = c.differ.ensures ∙ ap (λ h. differ (owner_in h c.args.one) (owner_in h c.args.other)) c.source.ensures in
-    let told = clash_twins k.same c.args.rule o c.args.item _ (option_map k.plain c.flag.result) w (flags_in k.own k.aliases w) c.flag-count.result c.entry.result
-    (sym is ∙ c.if-not-differ.false) c.flag-count.ensures c.flag.ensures.value (c.entry.ensures f) in
-    record { took = subst (λ l. g.S.Sink.after c.args.sink.now l c.offer-same.new.sink) told c.offer-same.ensures.took; goes = c.offer-same.ensures.goes }
+    let told = clash_twins k.same c.args.rule o c.args.item _ (option_map k.plain c.flag.result) w (flags_in k.own k.aliases w) c.flag_count.result c.entry.result
+    (sym is ∙ c.if-not-differ.false) c.flag_count.ensures c.flag.ensures.value (c.entry.ensures f) in
+    record { took = subst (λ l. g.S.Sink.after c.args.sink.now l c.offer_same.new.sink) told c.offer_same.ensures.took; goes = c.offer_same.ensures.goes }

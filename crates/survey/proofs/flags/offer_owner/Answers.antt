@@ -16,13 +16,13 @@ loop-item-preserved g c =
     let o = owner_numbered f i in
     let flags_of = flags_in k.own k.aliases in
     let h = λ (n : ℕ) (x : Option k.Plain). blocks (λ _ w. clash_report k.same c.args.rule o n x w (flags_of w)) (suc i) (drop (suc i) (owners f)) in
-    let owner : owner_in f c.owner-at-owner.result ≡ o = subst (λ h. owner_in h c.owner-at-owner.result ≡ owner_numbered h i) c.source.ensures c.owner-at-owner.ensures in
-    let count : c.flag-count-item-end.result ≡ length (flags_of o) = c.flag-count-item-end.ensures ∙ ap (λ w. length (flags_of w)) owner in
+    let owner : owner_in f c.owner_at-owner.result ≡ o = subst (λ h. owner_in h c.owner_at-owner.result ≡ owner_numbered h i) c.source.ensures c.owner_at-owner.ensures in
+    let count : c.flag_count-item-end.result ≡ length (flags_of o) = c.flag_count-item-end.ensures ∙ ap (λ w. length (flags_of w)) owner in
     let lt : j < length (flags_of o) = omega (arith, count) in
-    walk_step s.after s.more h 0 (flags_of o) None _ _ _ j lt c.loop-item.invariant c.offer-flag.ensures.took
+    walk_step s.after s.more h 0 (flags_of o) None _ _ _ j lt c.loop-item.invariant c.offer_flag.ensures.took
 
-pub returns-then-not-offer-flag : goal.returns-then-not-offer-flag
-returns-then-not-offer-flag g c =
+pub returns-then-not-offer_flag : goal.returns-then-not-offer_flag
+returns-then-not-offer_flag g c =
     let s = g.S.Sink in
     let k = g.K.FlagKind in
     let f = k.form c.args.kind.now in
@@ -31,12 +31,12 @@ returns-then-not-offer-flag g c =
     let o = owner_numbered f i in
     let flags_of = flags_in k.own k.aliases in
     let h = λ (n : ℕ) (x : Option k.Plain). blocks (λ _ w. clash_report k.same c.args.rule o n x w (flags_of w)) (suc i) (drop (suc i) (owners f)) in
-    let owner : owner_in f c.owner-at-owner.result ≡ o = subst (λ h. owner_in h c.owner-at-owner.result ≡ owner_numbered h i) c.source.ensures c.owner-at-owner.ensures in
-    let count : c.flag-count-item-end.result ≡ length (flags_of o) = c.flag-count-item-end.ensures ∙ ap (λ w. length (flags_of w)) owner in
+    let owner : owner_in f c.owner_at-owner.result ≡ o = subst (λ h. owner_in h c.owner_at-owner.result ≡ owner_numbered h i) c.source.ensures c.owner_at-owner.ensures in
+    let count : c.flag_count-item-end.result ≡ length (flags_of o) = c.flag_count-item-end.ensures ∙ ap (λ w. length (flags_of w)) owner in
     let lt : j < length (flags_of o) = omega (arith, count) in
-    let full = stopped _ _ c.offer-flag.ensures.goes c.if-not-offer-flag.true in
+    let full = stopped _ _ c.offer_flag.ensures.goes c.if-not-offer_flag.true in
     record {
-      took = walk_stop s.after s.more h 0 (flags_of o) None _ _ c.offer-flag.new.sink j (λ ys. s.stays _ ys full) lt c.loop-item.invariant c.offer-flag.ensures.took;
+      took = walk_stop s.after s.more h 0 (flags_of o) None _ _ c.offer_flag.new.sink j (λ ys. s.stays _ ys full) lt c.loop-item.invariant c.offer_flag.ensures.took;
       goes = sym (ap not full);
     }
 
@@ -50,7 +50,7 @@ returns g c =
     let o = owner_numbered f i in
     let flags_of = flags_in k.own k.aliases in
     let h = λ (n : ℕ) (x : Option k.Plain). blocks (λ _ w. clash_report k.same c.args.rule o n x w (flags_of w)) (suc i) (drop (suc i) (owners f)) in
-    let owner : owner_in f c.owner-at-owner.result ≡ o = subst (λ h. owner_in h c.owner-at-owner.result ≡ owner_numbered h i) c.source.ensures c.owner-at-owner.ensures in
-    let count : c.flag-count-item-end.result ≡ length (flags_of o) = c.flag-count-item-end.ensures ∙ ap (λ w. length (flags_of w)) owner in
+    let owner : owner_in f c.owner_at-owner.result ≡ o = subst (λ h. owner_in h c.owner_at-owner.result ≡ owner_numbered h i) c.source.ensures c.owner_at-owner.ensures in
+    let count : c.flag_count-item-end.result ≡ length (flags_of o) = c.flag_count-item-end.ensures ∙ ap (λ w. length (flags_of w)) owner in
     let le : length (flags_of o) ≤ j = omega (arith, count) in
-    record { took = walk_end s.after s.none h 0 (flags_of o) _ _ j le c.loop-item.invariant; goes = ap not c.is-full.ensures }
+    record { took = walk_end s.after s.none h 0 (flags_of o) _ _ j le c.loop-item.invariant; goes = ap not c.is_full.ensures }

@@ -19,22 +19,22 @@ loop-item-preserved g c =
     walk_step k.after k.more h 0 (names_at f l c.args.place) [] _ _ _ i (omega arith) c.loop-item.invariant
     (when_as k.after _ _ _ _ _ _
     (ap not (c.has-missing.ensures ∙ ap (λ n. some (bytes_eq n) (known_ids f c.args.names.known)) c.name.ensures))
-    (c.of-item-breach.ensures ∙ ap (λ e. of_item c.args.names.rule e l i) c.group-at.ensures)
-    c.offer-if.ensures.took)
+    (c.of_item-breach.ensures ∙ ap (λ e. of_item c.args.names.rule e l i) c.group_at.ensures)
+    c.offer_if.ensures.took)
 
-pub returns-then-not-offer-if : goal.returns-then-not-offer-if
-returns-then-not-offer-if g c =
+pub returns-then-not-offer_if : goal.returns-then-not-offer_if
+returns-then-not-offer_if g c =
     let k = g.S.Sink in
     let f = g.F.FormSource.form c.args.form.now in
     let l = c.args.names.list in
     let i = c.loop-item.item in
     let h = λ (k : ℕ) (x : Name). when (missing (known_ids f c.args.names.known) x) (of_item c.args.names.rule (group c.args.place) l k) in
-    let full = stopped _ _ c.offer-if.ensures.goes c.if-not-offer-if.true in
+    let full = stopped _ _ c.offer_if.ensures.goes c.if-not-offer_if.true in
     let took = walk_stop k.after k.more h 0 (names_at f l c.args.place) [] _ _ _ i (λ ys. k.stays _ ys full) (omega arith) c.loop-item.invariant
     (when_as k.after _ _ _ _ _ _
     (ap not (c.has-missing.ensures ∙ ap (λ n. some (bytes_eq n) (known_ids f c.args.names.known)) c.name.ensures))
-    (c.of-item-breach.ensures ∙ ap (λ e. of_item c.args.names.rule e l i) c.group-at.ensures)
-    c.offer-if.ensures.took) in
+    (c.of_item-breach.ensures ∙ ap (λ e. of_item c.args.names.rule e l i) c.group_at.ensures)
+    c.offer_if.ensures.took) in
     record { took = took; goes = sym (ap not full) }
 
 pub returns : goal.returns
@@ -46,5 +46,5 @@ returns g c =
     let h = λ (k : ℕ) (x : Name). when (missing (known_ids f c.args.names.known) x) (of_item c.args.names.rule (group c.args.place) l k) in
     record {
       took = walk_end k.after k.none h 0 (names_at f l c.args.place) _ _ i (omega arith) c.loop-item.invariant;
-      goes = ap not c.is-full.ensures;
+      goes = ap not c.is_full.ensures;
     }

@@ -9,7 +9,7 @@ pub returns : goal.returns
 returns g c =
     let f = g.F.FormSource.form c.args.form.now in
     record {
-      took = with_argument_by g.S.Sink.after _ _ f c.args.place _ _ GroupIdOfArgument id_of_argument _ c.group-at.ensures c.arg-count.ensures
-          (λ j. ap (λ x. bytes_eq x (arg_of f j).id) c.group.ensures) c.offer-same.ensures.took;
-      goes = c.offer-same.ensures.goes;
+      took = with_argument_by g.S.Sink.after _ _ f c.args.place _ _ GroupIdOfArgument id_of_argument _ c.group_at.ensures c.arg_count.ensures
+          (λ j. ap (λ x. bytes_eq x (arg_of f j).id) c.group.ensures) c.offer_same.ensures.took;
+      goes = c.offer_same.ensures.goes;
     }

@@ -6,14 +6,14 @@ use Rattle.survey.specs.Groups.{group_of}
 use Rattle.survey.proofs.Pairs.{later_group_by}
 use Rattle.survey.proofs.groups.offer_same_groups.Goals as goal
 
-pub overflow-add-place : goal.overflow-add-place
-overflow-add-place g c = omega (arith, (g.F.FormSource.fits c.args.form.now).groups)
+pub overflow_add-place : goal.overflow_add-place
+overflow_add-place g c = omega (arith, (g.F.FormSource.fits c.args.form.now).groups)
 
 pub returns : goal.returns
 returns g c =
     let f = g.F.FormSource.form c.args.form.now in
     record {
-      took = later_group_by g.S.Sink.after _ _ f c.args.place _ _ SameGroupId same_group_id _ c.group-at.ensures c.group-count.ensures
-          (λ j. ap (λ x. bytes_eq x (group_of f j).id) c.group.ensures) c.offer-same.ensures.took;
-      goes = c.offer-same.ensures.goes;
+      took = later_group_by g.S.Sink.after _ _ f c.args.place _ _ SameGroupId same_group_id _ c.group_at.ensures c.group_count.ensures
+          (λ j. ap (λ x. bytes_eq x (group_of f j).id) c.group.ensures) c.offer_same.ensures.took;
+      goes = c.offer_same.ensures.goes;
     }

@@ -12,17 +12,17 @@ loop-place-preserved g c =
     let f = g.F.FormSource.form c.args.form.now in
     let p = c.loop-place.place in
     let h = λ (p : ℕ) (a : Group). blocks (λ _ r. group_report f p a r) 0 group_rows in
-    walk_step k.after k.more h 0 f.groups blank_group _ _ _ p (omega arith) c.loop-place.invariant c.offer-group-rules.ensures.took
+    walk_step k.after k.more h 0 f.groups blank_group _ _ _ p (omega arith) c.loop-place.invariant c.offer_group_rules.ensures.took
 
-pub returns-then-not-offer-group-rules : goal.returns-then-not-offer-group-rules
-returns-then-not-offer-group-rules g c =
+pub returns-then-not-offer_group_rules : goal.returns-then-not-offer_group_rules
+returns-then-not-offer_group_rules g c =
     let k = g.S.Sink in
     let f = g.F.FormSource.form c.args.form.now in
     let p = c.loop-place.place in
     let h = λ (p : ℕ) (a : Group). blocks (λ _ r. group_report f p a r) 0 group_rows in
-    let full = stopped _ _ c.offer-group-rules.ensures.goes c.if-not-offer-group-rules.true in
+    let full = stopped _ _ c.offer_group_rules.ensures.goes c.if-not-offer_group_rules.true in
     record {
-      took = walk_stop k.after k.more h 0 f.groups blank_group _ _ _ p (λ ys. k.stays _ ys full) (omega arith) c.loop-place.invariant c.offer-group-rules.ensures.took;
+      took = walk_stop k.after k.more h 0 f.groups blank_group _ _ _ p (λ ys. k.stays _ ys full) (omega arith) c.loop-place.invariant c.offer_group_rules.ensures.took;
       goes = sym (ap not full);
     }
 
@@ -34,5 +34,5 @@ returns g c =
     let h = λ (p : ℕ) (a : Group). blocks (λ _ r. group_report f p a r) 0 group_rows in
     record {
       took = walk_end k.after k.none h 0 f.groups _ _ p (omega arith) c.loop-place.invariant;
-      goes = ap not c.is-full.ensures;
+      goes = ap not c.is_full.ensures;
     }

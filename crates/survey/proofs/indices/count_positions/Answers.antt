@@ -1,7 +1,7 @@
 use Rattle.std.proofs.Common.{◌≡◌, sym, refl, ap, ◌∙◌, arith}
 use Rattle.survey.proofs.Counts.{counted_skip, counted_more, counted_all}
 use Rattle.survey.proofs.indices.count_positions.Goals as goal
-use Rattle.survey.proofs.indices.count_positions.Goals.{in-Some, in-default}
+use Rattle.survey.proofs.indices.count_positions.Goals.{in-Some, in_default}
 
 pub loop-place-preserved : goal.loop-place-preserved
 loop-place-preserved g c =
@@ -9,7 +9,7 @@ loop-place-preserved g c =
     let index = ap (λ r. r.index) (sym c.arg.ensures) in
     elim c.match-arg.branch [
       | in-Some w ↦ rw (w.count_is, w.highest_is, w.max-highest.ensures) (counted_more xs c.loop-place.place _ _ _ (omega arith) (index ∙ w.in-Some.is) c.loop-place.invariant)
-      | in-default w ↦ rw (w.count_is, w.highest_is) (counted_skip xs c.loop-place.place _ _ (omega arith) (index ∙ w.in-default.is) c.loop-place.invariant)
+      | in_default w ↦ rw (w.count_is, w.highest_is) (counted_skip xs c.loop-place.place _ _ (omega arith) (index ∙ w.in_default.is) c.loop-place.invariant)
     ]
 
 pub returns : goal.returns

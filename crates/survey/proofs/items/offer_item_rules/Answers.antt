@@ -9,42 +9,42 @@ use Rattle.looks.specs.Records.{bare, seen}
 use Rattle.sinks.proofs.Walks.{when_as, stopped}
 use Rattle.survey.proofs.items.offer_item_rules.Goals as goal
 
-pub returns-then-not-offer-if : goal.returns-then-not-offer-if
+pub returns-then-not-offer_if : goal.returns-then-not-offer_if
 unfolding blocks
-returns-then-not-offer-if g c =
+returns-then-not-offer_if g c =
     let k = g.S.Sink in
     let f = g.F.FormSource.form c.args.form.now in
     let l = c.args.list in
     let i = c.args.item in
     let x = get_or (names_at f l c.args.place) i [] in
-    let full = stopped _ _ c.offer-if.ensures.goes c.if-not-offer-if.true in
+    let full = stopped _ _ c.offer_if.ensures.goes c.if-not-offer_if.true in
     record {
       took = k.more _ _ _ _ _ (when_as k.after _ _ _ _ _ _
           (c.requires_itself.ensures ∙ ap (λ n. requires_itself l (seen c.args.arg.now) n) c.name-name.ensures ∙ ap (λ r. requires_itself l (bare r) x) c.requires)
-          (c.of-item-itself.ensures ∙ ap (λ e. of_item RequiresItself e l i) c.argument-at-owner.ensures)
-          c.offer-if.ensures.took)
+          (c.of_item-itself.ensures ∙ ap (λ e. of_item RequiresItself e l i) c.argument_at-owner.ensures)
+          c.offer_if.ensures.took)
           (k.stays _ _ full);
       goes = sym (ap not full);
     }
 
-pub returns-then-not-offer-if-2 : goal.returns-then-not-offer-if-2
+pub returns-then-not-offer_if-2 : goal.returns-then-not-offer_if-2
 unfolding blocks
-returns-then-not-offer-if-2 g c =
+returns-then-not-offer_if-2 g c =
     let k = g.S.Sink in
     let f = g.F.FormSource.form c.args.form.now in
     let l = c.args.list in
     let i = c.args.item in
     let x = get_or (names_at f l c.args.place) i [] in
-    let full = stopped _ _ c.offer-if-2.ensures.goes c.if-not-offer-if-2.true in
+    let full = stopped _ _ c.offer_if-2.ensures.goes c.if-not-offer_if-2.true in
     record {
       took = k.more _ _ _ _ _ (when_as k.after _ _ _ _ _ _
           (c.requires_itself.ensures ∙ ap (λ n. requires_itself l (seen c.args.arg.now) n) c.name-name.ensures ∙ ap (λ r. requires_itself l (bare r) x) c.requires)
-          (c.of-item-itself.ensures ∙ ap (λ e. of_item RequiresItself e l i) c.argument-at-owner.ensures)
-          c.offer-if.ensures.took)
+          (c.of_item-itself.ensures ∙ ap (λ e. of_item RequiresItself e l i) c.argument_at-owner.ensures)
+          c.offer_if.ensures.took)
           (k.more _ _ _ _ _ (when_as k.after _ _ _ _ _ _
           (c.required_conditionally.ensures x ∙ ap (λ r. required_conditionally l (bare r) x) c.requires)
-          (c.of-item-conditional.ensures ∙ ap (λ e. of_item RequiredConditionally e l i) c.argument-at-owner.ensures)
-          c.offer-if-2.ensures.took)
+          (c.of_item-conditional.ensures ∙ ap (λ e. of_item RequiredConditionally e l i) c.argument_at-owner.ensures)
+          c.offer_if-2.ensures.took)
           (k.stays _ _ full));
       goes = sym (ap not full);
     }
@@ -60,16 +60,16 @@ returns g c =
     record {
       took = k.more _ _ _ _ _ (when_as k.after _ _ _ _ _ _
           (c.requires_itself.ensures ∙ ap (λ n. requires_itself l (seen c.args.arg.now) n) c.name-name.ensures ∙ ap (λ r. requires_itself l (bare r) x) c.requires)
-          (c.of-item-itself.ensures ∙ ap (λ e. of_item RequiresItself e l i) c.argument-at-owner.ensures)
-          c.offer-if.ensures.took)
+          (c.of_item-itself.ensures ∙ ap (λ e. of_item RequiresItself e l i) c.argument_at-owner.ensures)
+          c.offer_if.ensures.took)
           (k.more _ _ _ _ _ (when_as k.after _ _ _ _ _ _
           (c.required_conditionally.ensures x ∙ ap (λ r. required_conditionally l (bare r) x) c.requires)
-          (c.of-item-conditional.ensures ∙ ap (λ e. of_item RequiredConditionally e l i) c.argument-at-owner.ensures)
-          c.offer-if-2.ensures.took)
+          (c.of_item-conditional.ensures ∙ ap (λ e. of_item RequiredConditionally e l i) c.argument_at-owner.ensures)
+          c.offer_if-2.ensures.took)
           (k.more _ _ _ _ _ (when_as k.after _ _ _ _ _ _
-          (ap not (c.names-entry.ensures ∙ ap (λ n. some (bytes_eq n) (ids f)) c.name-name.ensures))
-          (c.of-item-missing.ensures ∙ ap (λ e. of_item MissingReference e l i) c.argument-at-owner.ensures)
-          c.offer-if-3.ensures.took)
+          (ap not (c.names_entry.ensures ∙ ap (λ n. some (bytes_eq n) (ids f)) c.name-name.ensures))
+          (c.of_item-missing.ensures ∙ ap (λ e. of_item MissingReference e l i) c.argument_at-owner.ensures)
+          c.offer_if-3.ensures.took)
           (k.none _)));
-      goes = c.offer-if-3.ensures.goes;
+      goes = c.offer_if-3.ensures.goes;
     }

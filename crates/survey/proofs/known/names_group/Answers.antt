@@ -9,14 +9,14 @@ loop-place-preserved g c =
     let name = c.args.name.now in
     let id = c.group.ensures in
     c.loop-place.invariant ∙ some_not_here (bytes_eq name) (λ (x : Group). x.id) (g.F.FormSource.form c.args.form.now).groups blank_group c.loop-place.place (omega arith)
-    (ap (bytes_eq name) (sym id) ∙ sym c.is-same.ensures ∙ c.if-is-same.false)
+    (ap (bytes_eq name) (sym id) ∙ sym c.is_same.ensures ∙ c.if-is_same.false)
 
-pub returns-then-is-same : goal.returns-then-is-same
-returns-then-is-same g c =
+pub returns-then-is_same : goal.returns-then-is_same
+returns-then-is_same g c =
     let name = c.args.name.now in
     let id = c.group.ensures in
     sym (c.loop-place.invariant ∙ some_here (bytes_eq name) (λ (x : Group). x.id) (g.F.FormSource.form c.args.form.now).groups blank_group c.loop-place.place (omega arith)
-    (ap (bytes_eq name) (sym id) ∙ sym c.is-same.ensures ∙ c.if-is-same.true))
+    (ap (bytes_eq name) (sym id) ∙ sym c.is_same.ensures ∙ c.if-is_same.true))
 
 pub returns : goal.returns
 returns g c = sym (c.loop-place.invariant ∙ some_past (bytes_eq c.args.name.now) (λ (x : Group). x.id) (g.F.FormSource.form c.args.form.now).groups c.loop-place.place (omega arith))

@@ -16,8 +16,8 @@ marked true true = refl
 marked true false = refl
 marked false y = refl
 
-pub overflow-add-place : goal.overflow-add-place
-overflow-add-place g c = omega (arith, (g.F.FormSource.fits c.args.form.now).args, c.arg-count-count.ensures)
+pub overflow_add-place : goal.overflow_add-place
+overflow_add-place g c = omega (arith, (g.F.FormSource.fits c.args.form.now).args, c.arg_count-count.ensures)
 
 pub loop-place-preserved : goal.loop-place-preserved
 loop-place-preserved g c =
@@ -26,20 +26,20 @@ loop-place-preserved g c =
     let p = c.loop-place.place in
     let h = λ (p : ℕ) (a : Arg). blocks (λ _ r. arg_report f p a r) 0 (later TwoLast two_last ∷ []) in
     let mark : c.last_mark.result ≡ last_mark (arg_of f p) = c.last_mark.ensures ∙ ap (λ r. last_mark (bare r)) c.arg.ensures in
-    let here = row_alone k.after _ _ f p (later TwoLast two_last) (later_by k.after _ _ f p _ _ TwoLast two_last _ c.argument_at.ensures c.arg-count-count.ensures
-    (λ j. ap (λ m. same_if (λ _ _. true) m (last_mark (arg_of f j))) mark ∙ marked (positional_last (arg_of f p)) (positional_last (arg_of f j))) c.offer-same.ensures.took) in
+    let here = row_alone k.after _ _ f p (later TwoLast two_last) (later_by k.after _ _ f p _ _ TwoLast two_last _ c.argument_at.ensures c.arg_count-count.ensures
+    (λ j. ap (λ m. same_if (λ _ _. true) m (last_mark (arg_of f j))) mark ∙ marked (positional_last (arg_of f p)) (positional_last (arg_of f j))) c.offer_same.ensures.took) in
     walk_step k.after k.more h 0 f.args blank_arg _ _ _ p (omega arith) c.loop-place.invariant here
 
-pub returns-then-not-offer-same : goal.returns-then-not-offer-same
-returns-then-not-offer-same g c =
+pub returns-then-not-offer_same : goal.returns-then-not-offer_same
+returns-then-not-offer_same g c =
     let k = g.S.Sink in
     let f = g.F.FormSource.form c.args.form.now in
     let p = c.loop-place.place in
     let h = λ (p : ℕ) (a : Arg). blocks (λ _ r. arg_report f p a r) 0 (later TwoLast two_last ∷ []) in
-    let full = stopped _ _ c.offer-same.ensures.goes c.if-not-offer-same.true in
+    let full = stopped _ _ c.offer_same.ensures.goes c.if-not-offer_same.true in
     let mark : c.last_mark.result ≡ last_mark (arg_of f p) = c.last_mark.ensures ∙ ap (λ r. last_mark (bare r)) c.arg.ensures in
-    let here = row_alone k.after _ _ f p (later TwoLast two_last) (later_by k.after _ _ f p _ _ TwoLast two_last _ c.argument_at.ensures c.arg-count-count.ensures
-    (λ j. ap (λ m. same_if (λ _ _. true) m (last_mark (arg_of f j))) mark ∙ marked (positional_last (arg_of f p)) (positional_last (arg_of f j))) c.offer-same.ensures.took) in
+    let here = row_alone k.after _ _ f p (later TwoLast two_last) (later_by k.after _ _ f p _ _ TwoLast two_last _ c.argument_at.ensures c.arg_count-count.ensures
+    (λ j. ap (λ m. same_if (λ _ _. true) m (last_mark (arg_of f j))) mark ∙ marked (positional_last (arg_of f p)) (positional_last (arg_of f j))) c.offer_same.ensures.took) in
     record {
       took = walk_stop k.after k.more h 0 f.args blank_arg _ _ _ p (λ ys. k.stays _ ys full) (omega arith) c.loop-place.invariant here;
       goes = sym (ap not full);
@@ -53,5 +53,5 @@ returns g c =
     let h = λ (p : ℕ) (a : Arg). blocks (λ _ r. arg_report f p a r) 0 (later TwoLast two_last ∷ []) in
     record {
       took = walk_end k.after k.none h 0 f.args _ _ p (omega arith) c.loop-place.invariant;
-      goes = ap not c.is-full.ensures;
+      goes = ap not c.is_full.ensures;
     }

@@ -15,10 +15,10 @@ loop-item-preserved g c =
     let h = λ (k : ℕ) (x : Name). blocks (λ q t. taken_report p k x q t) 0 (take (suc p) f.subcommands) in
     let xs = called (subcommand_of f p) in
     let lt : k < length xs = omega arith in
-    walk_step s.after s.more h 0 xs [] _ _ _ k lt c.loop-item.invariant c.offer-name.ensures.took
+    walk_step s.after s.more h 0 xs [] _ _ _ k lt c.loop-item.invariant c.offer_name.ensures.took
 
-pub returns-then-not-offer-name : goal.returns-then-not-offer-name
-returns-then-not-offer-name g c =
+pub returns-then-not-offer_name : goal.returns-then-not-offer_name
+returns-then-not-offer_name g c =
     let s = g.S.Sink in
     let f = g.F.FormSource.form c.args.form.now in
     let p = c.args.later in
@@ -26,9 +26,9 @@ returns-then-not-offer-name g c =
     let h = λ (k : ℕ) (x : Name). blocks (λ q t. taken_report p k x q t) 0 (take (suc p) f.subcommands) in
     let xs = called (subcommand_of f p) in
     let lt : k < length xs = omega arith in
-    let full = stopped _ _ c.offer-name.ensures.goes c.if-not-offer-name.true in
+    let full = stopped _ _ c.offer_name.ensures.goes c.if-not-offer_name.true in
     record {
-      took = walk_stop s.after s.more h 0 xs [] _ _ c.offer-name.new.sink k (λ ys. s.stays _ ys full) lt c.loop-item.invariant c.offer-name.ensures.took;
+      took = walk_stop s.after s.more h 0 xs [] _ _ c.offer_name.new.sink k (λ ys. s.stays _ ys full) lt c.loop-item.invariant c.offer_name.ensures.took;
       goes = sym (ap not full);
     }
 
@@ -41,4 +41,4 @@ returns g c =
     let h = λ (k : ℕ) (x : Name). blocks (λ q t. taken_report p k x q t) 0 (take (suc p) f.subcommands) in
     let xs = called (subcommand_of f p) in
     let le : length xs ≤ k = omega arith in
-    record { took = walk_end s.after s.none h 0 xs _ _ k le c.loop-item.invariant; goes = ap not c.is-full.ensures }
+    record { took = walk_end s.after s.none h 0 xs _ _ k le c.loop-item.invariant; goes = ap not c.is_full.ensures }

@@ -5,5 +5,5 @@ use Rattle.survey.proofs.names.offer_taken.Goals as goal
 pub returns : goal.returns
 returns g c =
     let f = g.F.FormSource.form c.args.form.now in
-    let told = taken_twins f c.args.later c.args.item c.args.place c.name-count.result c.name-at.result.now c.name-at.ensures c.name-count.ensures in
-    record { took = subst (λ l. g.S.Sink.after c.args.sink.now l c.offer-same.new.sink) told c.offer-same.ensures.took; goes = c.offer-same.ensures.goes }
+    let told = taken_twins f c.args.later c.args.item c.args.place c.name_count.result c.name_at.result.now c.name_at.ensures c.name_count.ensures in
+    record { took = subst (λ l. g.S.Sink.after c.args.sink.now l c.offer_same.new.sink) told c.offer_same.ensures.took; goes = c.offer_same.ensures.goes }

@@ -12,18 +12,18 @@ loop-later-preserved g c =
     let p = c.loop-later.later in
     let h = λ (p : ℕ) (t : Subcommand). blocks (λ k x. blocks (λ q u. taken_report p k x q u) 0 (take (suc p) ss)) 0 (called t) in
     let lt : p < length ss = omega arith in
-    walk_step s.after s.more h 0 ss blank_subcommand _ _ _ p lt c.loop-later.invariant c.offer-names.ensures.took
+    walk_step s.after s.more h 0 ss blank_subcommand _ _ _ p lt c.loop-later.invariant c.offer_names.ensures.took
 
-pub returns-then-not-offer-names : goal.returns-then-not-offer-names
-returns-then-not-offer-names g c =
+pub returns-then-not-offer_names : goal.returns-then-not-offer_names
+returns-then-not-offer_names g c =
     let s = g.S.Sink in
     let ss = (g.F.FormSource.form c.args.form.now).subcommands in
     let p = c.loop-later.later in
     let h = λ (p : ℕ) (t : Subcommand). blocks (λ k x. blocks (λ q u. taken_report p k x q u) 0 (take (suc p) ss)) 0 (called t) in
     let lt : p < length ss = omega arith in
-    let full = stopped _ _ c.offer-names.ensures.goes c.if-not-offer-names.true in
+    let full = stopped _ _ c.offer_names.ensures.goes c.if-not-offer_names.true in
     record {
-      took = walk_stop s.after s.more h 0 ss blank_subcommand _ _ c.offer-names.new.sink p (λ ys. s.stays _ ys full) lt c.loop-later.invariant c.offer-names.ensures.took;
+      took = walk_stop s.after s.more h 0 ss blank_subcommand _ _ c.offer_names.new.sink p (λ ys. s.stays _ ys full) lt c.loop-later.invariant c.offer_names.ensures.took;
       goes = sym (ap not full);
     }
 
@@ -34,4 +34,4 @@ returns g c =
     let p = c.loop-later.later in
     let h = λ (p : ℕ) (t : Subcommand). blocks (λ k x. blocks (λ q u. taken_report p k x q u) 0 (take (suc p) ss)) 0 (called t) in
     let le : length ss ≤ p = omega arith in
-    record { took = walk_end s.after s.none h 0 ss _ _ p le c.loop-later.invariant; goes = ap not c.is-full.ensures }
+    record { took = walk_end s.after s.none h 0 ss _ _ p le c.loop-later.invariant; goes = ap not c.is_full.ensures }

@@ -7,7 +7,7 @@ use Rattle.survey.proofs.own.offer_after_rules.Goals as goal
 
 pub returns : goal.returns
 returns g c = record {
-  took = λ f shows. told_by g.S.Sink.after _ _ _ f c.args.place _ after_rows c.argument_at.ensures c.offer-tests.ensures.took (
+  took = λ f shows. told_by g.S.Sink.after _ _ _ f c.args.place _ after_rows c.argument_at.ensures c.offer_tests.ensures.took (
     (c.last_with_long.ensures ∙ ap (λ r. last_with_long (bare r)) shows, refl),
     (
       (c.last_with_letter.ensures ∙ ap (λ r. last_with_letter (bare r)) shows, refl),
@@ -17,5 +17,5 @@ returns g c = record {
       ),
     ),
   );
-  goes = c.offer-tests.ensures.goes;
+  goes = c.offer_tests.ensures.goes;
 }

@@ -8,12 +8,12 @@ use Rattle.survey.proofs.own.offer_name_rules.Goals as goal
 
 pub returns : goal.returns
 returns g c = record {
-  took = told_by g.S.Sink.after _ _ _ (g.F.FormSource.form c.args.form.now) c.args.place _ name_rows c.argument_at.ensures c.offer-tests.ensures.took (
-    (c.is-set.ensures ∙ ap (λ b. app_set b Multicall) c.settings.ensures, refl),
+  took = told_by g.S.Sink.after _ _ _ (g.F.FormSource.form c.args.form.now) c.args.place _ name_rows c.argument_at.ensures c.offer_tests.ensures.took (
+    (c.is_set.ensures ∙ ap (λ b. app_set b Multicall) c.settings.ensures, refl),
     (
-      (c.is-dashed.ensures ∙ ap (λ r. dashed r.long) c.requires, refl),
+      (c.is_dashed.ensures ∙ ap (λ r. dashed r.long) c.requires, refl),
       tt,
     ),
   );
-  goes = c.offer-tests.ensures.goes;
+  goes = c.offer_tests.ensures.goes;
 }

@@ -7,7 +7,7 @@ use Rattle.survey.proofs.own.offer_value_rules.Goals as goal
 
 pub returns : goal.returns
 returns g c = record {
-  took = λ f shows. told_by g.S.Sink.after _ _ _ f c.args.place _ value_rows c.argument_at.ensures c.offer-tests.ensures.took (
+  took = λ f shows. told_by g.S.Sink.after _ _ _ f c.args.place _ value_rows c.argument_at.ensures c.offer_tests.ensures.took (
     (c.too_many_values.ensures ∙ ap (λ r. too_many_values (bare r)) shows, refl),
     (
       (c.index_with_flag.ensures ∙ ap (λ r. index_with_flag (bare r)) shows, refl),
@@ -29,5 +29,5 @@ returns g c = record {
       ),
     ),
   );
-  goes = c.offer-tests.ensures.goes;
+  goes = c.offer_tests.ensures.goes;
 }

@@ -13,37 +13,37 @@ use Rattle.survey.proofs.positions.survey_positions.Goals as goal
 use Rattle.survey.proofs.positions.survey_positions.Goals.{then-optional, else-optional}
 
 pub loop-position-init : goal.loop-position-init
-loop-position-init g c = descent_start g.S.Sink.after (g.F.FormSource.form c.args.form.now) _ _ c.count-positions-position.ensures.count
+loop-position-init g c = descent_start g.S.Sink.after (g.F.FormSource.form c.args.form.now) _ _ c.count_positions-position.ensures.count
 
 -- a position with no argument
-pub loop-position-preserved-in-default : goal.loop-position-preserved-in-default
-loop-position-preserved-in-default g c =
+pub loop-position-preserved-in_default : goal.loop-position-preserved-in_default
+loop-position-preserved-in_default g c =
     let k = g.S.Sink in
     let f = g.F.FormSource.form c.args.form.now in
     let n = c.loop-position.position in
     let e : n ≡ suc (n - 1) = omega arith in
     let found = c.loop-position.settled_above in
-    let at = c.in-default.ensures in
+    let at = c.in_default.ensures in
     let here : k.after c.loop-position.sink (told_at f n) c.loop-position.sink = rw (told_absent f n at) (k.none _) in
     descent_step k.after k.more f _ _ _ n (n - 1) found found e c.loop-position.invariant here (settled_absent f n found at)
 
-pub returns-then-not-offer-if : goal.returns-then-not-offer-if
-returns-then-not-offer-if g c =
+pub returns-then-not-offer_if : goal.returns-then-not-offer_if
+returns-then-not-offer_if g c =
     let k = g.S.Sink in
     let f = g.F.FormSource.form c.args.form.now in
     let n = c.loop-position.position in
     let p = c.in-Some.place in
     let e : n ≡ suc (n - 1) = omega arith in
     let found = c.loop-position.settled_above in
-    let required : c.is-set-optional.result ≡ arg_set (arg_of f p).settings Required = c.is-set-optional.ensures ∙ ap (λ r. arg_set r.settings Required) c.arg-arg.ensures in
-    let test : c.if-optional.offer-if ≡ (not (arg_set (arg_of f p).settings Required) && found) = elim c.if-optional.branch [
-      | then-optional w ↦ rw (← required, w.if-optional.true) w.offer-if-is
-      | else-optional w ↦ rw (← required, w.if-optional.false) (w.offer-if-is ∙ ap not w.if-optional.false)
+    let required : c.is_set-optional.result ≡ arg_set (arg_of f p).settings Required = c.is_set-optional.ensures ∙ ap (λ r. arg_set r.settings Required) c.arg-arg.ensures in
+    let test : c.if-optional.offer_if ≡ (not (arg_set (arg_of f p).settings Required) && found) = elim c.if-optional.branch [
+      | then-optional w ↦ rw (← required, w.if-optional.true) w.offer_if-is
+      | else-optional w ↦ rw (← required, w.if-optional.false) (w.offer_if-is ∙ ap not w.if-optional.false)
     ] in
-    let full = stopped _ _ c.offer-if.ensures.goes c.if-not-offer-if.true in
-    let told = told_some f n p _ found _ c.in-Some.ensures c.loop-position.invariant.above test (c.of-one-breach.ensures ∙ ap (of_one OptionalBeforeRequired) c.argument_at.ensures) in
+    let full = stopped _ _ c.offer_if.ensures.goes c.if-not-offer_if.true in
+    let told = told_some f n p _ found _ c.in-Some.ensures c.loop-position.invariant.above test (c.of_one-breach.ensures ∙ ap (of_one OptionalBeforeRequired) c.argument_at.ensures) in
     record {
-      took = descent_stop k.after k.more f _ _ c.offer-if.new.sink n (n - 1) found e (λ ys. k.stays _ ys full) c.loop-position.invariant (rw told c.offer-if.ensures.took);
+      took = descent_stop k.after k.more f _ _ c.offer_if.new.sink n (n - 1) found e (λ ys. k.stays _ ys full) c.loop-position.invariant (rw told c.offer_if.ensures.took);
       goes = sym (ap not full);
     }
 
@@ -55,19 +55,19 @@ loop-position-preserved g c =
     let p = c.in-Some.place in
     let e : n ≡ suc (n - 1) = omega arith in
     let found = c.loop-position.settled_above in
-    let required : c.is-set-optional.result ≡ arg_set (arg_of f p).settings Required = c.is-set-optional.ensures ∙ ap (λ r. arg_set r.settings Required) c.arg-arg.ensures in
-    let test : c.if-optional.offer-if ≡ (not (arg_set (arg_of f p).settings Required) && found) = elim c.if-optional.branch [
-      | then-optional w ↦ rw (← required, w.if-optional.true) w.offer-if-is
-      | else-optional w ↦ rw (← required, w.if-optional.false) (w.offer-if-is ∙ ap not w.if-optional.false)
+    let required : c.is_set-optional.result ≡ arg_set (arg_of f p).settings Required = c.is_set-optional.ensures ∙ ap (λ r. arg_set r.settings Required) c.arg-arg.ensures in
+    let test : c.if-optional.offer_if ≡ (not (arg_set (arg_of f p).settings Required) && found) = elim c.if-optional.branch [
+      | then-optional w ↦ rw (← required, w.if-optional.true) w.offer_if-is
+      | else-optional w ↦ rw (← required, w.if-optional.false) (w.offer_if-is ∙ ap not w.if-optional.false)
     ] in
-    let told = told_some f n p _ found _ c.in-Some.ensures c.loop-position.invariant.above test (c.of-one-breach.ensures ∙ ap (of_one OptionalBeforeRequired) c.argument_at.ensures) in
-    let settled = settled_some f n p found c.is-settled.result c.in-Some.ensures (c.is-settled.ensures ∙ ap (λ r. settles (bare r)) c.arg-arg.ensures) in
-    descent_step k.after k.more f _ _ c.offer-if.new.sink n (n - 1) found _ e c.loop-position.invariant (rw told c.offer-if.ensures.took) settled
+    let told = told_some f n p _ found _ c.in-Some.ensures c.loop-position.invariant.above test (c.of_one-breach.ensures ∙ ap (of_one OptionalBeforeRequired) c.argument_at.ensures) in
+    let settled = settled_some f n p found c.is_settled.result c.in-Some.ensures (c.is_settled.ensures ∙ ap (λ r. settles (bare r)) c.arg-arg.ensures) in
+    descent_step k.after k.more f _ _ c.offer_if.new.sink n (n - 1) found _ e c.loop-position.invariant (rw told c.offer_if.ensures.took) settled
 
 pub returns : goal.returns
 returns g c =
     let k = g.S.Sink in
     record {
       took = descent_end k.after k.none (g.F.FormSource.form c.args.form.now) _ _ c.loop-position.position _ (omega arith) c.loop-position.invariant;
-      goes = ap not c.is-full.ensures;
+      goes = ap not c.is_full.ensures;
     }

@@ -15,22 +15,22 @@ loop-place-preserved g c =
     let h = λ (p : ℕ) (s : Subcommand). when (dashed s.long) (of_one LongFlagDash (subcommand p)) in
     walk_step k.after k.more h 0 xs blank_subcommand _ _ _ p (omega arith) c.loop-place.invariant
     (when_as k.after _ _ _ _ _ _
-    (c.is-dashed-broken.ensures ∙ ap (λ r. dashed r.long) c.subcommand.ensures)
-    (c.of-one.ensures ∙ ap (of_one LongFlagDash) c.subcommand_at.ensures)
-    c.offer-if.ensures.took)
+    (c.is_dashed-broken.ensures ∙ ap (λ r. dashed r.long) c.subcommand.ensures)
+    (c.of_one.ensures ∙ ap (of_one LongFlagDash) c.subcommand_at.ensures)
+    c.offer_if.ensures.took)
 
-pub returns-then-not-offer-if : goal.returns-then-not-offer-if
-returns-then-not-offer-if g c =
+pub returns-then-not-offer_if : goal.returns-then-not-offer_if
+returns-then-not-offer_if g c =
     let k = g.S.Sink in
     let xs = (g.F.FormSource.form c.args.form.now).subcommands in
     let p = c.loop-place.place in
     let h = λ (p : ℕ) (s : Subcommand). when (dashed s.long) (of_one LongFlagDash (subcommand p)) in
-    let full = stopped _ _ c.offer-if.ensures.goes c.if-not-offer-if.true in
+    let full = stopped _ _ c.offer_if.ensures.goes c.if-not-offer_if.true in
     let took = walk_stop k.after k.more h 0 xs blank_subcommand _ _ _ p (λ ys. k.stays _ ys full) (omega arith) c.loop-place.invariant
     (when_as k.after _ _ _ _ _ _
-    (c.is-dashed-broken.ensures ∙ ap (λ r. dashed r.long) c.subcommand.ensures)
-    (c.of-one.ensures ∙ ap (of_one LongFlagDash) c.subcommand_at.ensures)
-    c.offer-if.ensures.took) in
+    (c.is_dashed-broken.ensures ∙ ap (λ r. dashed r.long) c.subcommand.ensures)
+    (c.of_one.ensures ∙ ap (of_one LongFlagDash) c.subcommand_at.ensures)
+    c.offer_if.ensures.took) in
     record { took = took; goes = sym (ap not full) }
 
 pub returns : goal.returns
@@ -41,5 +41,5 @@ returns g c =
     let h = λ (p : ℕ) (s : Subcommand). when (dashed s.long) (of_one LongFlagDash (subcommand p)) in
     record {
       took = walk_end k.after k.none h 0 xs _ _ p (omega arith) c.loop-place.invariant;
-      goes = ap not c.is-full.ensures;
+      goes = ap not c.is_full.ensures;
     }

@@ -9,9 +9,9 @@ use Rattle.survey.proofs.trailing.survey_trailing.Goals as goal
 
 pub returns : goal.returns
 returns g c =
-    let high = c.count-positions.ensures.highest in
+    let high = c.count_positions.ensures.highest in
     record {
-      took = each_by g.S.Sink.after _ _ (g.F.FormSource.form c.args.form.now) (trailing_tests c.count-positions.result.highest) trailing_rows
+      took = each_by g.S.Sink.after _ _ (g.F.FormSource.form c.args.form.now) (trailing_tests c.count_positions.result.highest) trailing_rows
           (λ a. (
             (ap (λ h. arg_set a.settings TrailingVarArg && (eqb (index_or_0 a.index) h && arg_set a.settings Last)) high, refl),
             (
@@ -19,6 +19,6 @@ returns g c =
               ((ap (λ h. arg_set a.settings TrailingVarArg && not (eqb (index_or_0 a.index) h)) high, refl), tt),
             ),
           ))
-          c.survey-each.ensures.took;
-      goes = c.survey-each.ensures.goes;
+          c.survey_each.ensures.took;
+      goes = c.survey_each.ensures.goes;
     }

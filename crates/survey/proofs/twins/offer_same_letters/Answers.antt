@@ -6,14 +6,14 @@ use Rattle.looks.specs.Records.{bare}
 use Rattle.survey.proofs.Pairs.{later_by}
 use Rattle.survey.proofs.twins.offer_same_letters.Goals as goal
 
-pub overflow-add-place : goal.overflow-add-place
-overflow-add-place g c = omega (arith, (g.F.FormSource.fits c.args.form.now).args)
+pub overflow_add-place : goal.overflow_add-place
+overflow_add-place g c = omega (arith, (g.F.FormSource.fits c.args.form.now).args)
 
 pub returns : goal.returns
 returns g c =
     let f = g.F.FormSource.form c.args.form.now in
     record {
-      took = later_by g.S.Sink.after _ _ f c.args.place _ _ SameLetter same_letter _ c.argument_at.ensures c.arg-count.ensures
-          (λ j. ap (λ r. same_if eqb r.letter (arg_of f j).letter) c.requires.shows) c.offer-same.ensures.took;
-      goes = c.offer-same.ensures.goes;
+      took = later_by g.S.Sink.after _ _ f c.args.place _ _ SameLetter same_letter _ c.argument_at.ensures c.arg_count.ensures
+          (λ j. ap (λ r. same_if eqb r.letter (arg_of f j).letter) c.requires.shows) c.offer_same.ensures.took;
+      goes = c.offer_same.ensures.goes;
     }

@@ -11,13 +11,13 @@ use Rattle.survey.proofs.value_settings.offer_bits.Goals as goal
 pub loop-turn-init : goal.loop-turn-init
 loop-turn-init g c = (c.requires, omega arith, λ u a. a)
 
-pub overflow-shl-left : goal.overflow-shl-left
-overflow-shl-left g c =
+pub overflow_shl-left : goal.overflow_shl-left
+overflow_shl-left g c =
     let low = turn (of_bit SettingWithoutValue c.args.owner) c.args.settings c.loop-turn.left c.loop-turn.-turn c.loop-turn.invariant.0 c.loop-turn.invariant.1 c.loop-turn-test.true in
     omega (arith, low.few)
 
-pub overflow-sub-left : goal.overflow-sub-left
-overflow-sub-left g c =
+pub overflow_sub-left : goal.overflow_sub-left
+overflow_sub-left g c =
     let low = turn (of_bit SettingWithoutValue c.args.owner) c.args.settings c.loop-turn.left c.loop-turn.-turn c.loop-turn.invariant.0 c.loop-turn.invariant.1 c.loop-turn-test.true in
     rw (one_shl (count_trailing_zeros 16 c.loop-turn.left) 16 (omega (arith, low.few))) low.low
 
@@ -52,5 +52,5 @@ returns g c =
     let none : ones c.loop-turn.left ≡ 0 = omega (arith, c.loop-turn.invariant.1, c.loop-turn-test.false) in
     record {
       took = rw (told_all b c.args.settings 12) (c.loop-turn.invariant.2 _ (rw (told_end b 12 16 c.loop-turn.left (lit≤ tt) c.loop-turn.invariant.0 none) (k.none _)));
-      goes = ap not c.is-full.ensures;
+      goes = ap not c.is_full.ensures;
     }

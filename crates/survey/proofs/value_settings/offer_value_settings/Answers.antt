@@ -13,25 +13,25 @@ use Rattle.sinks.proofs.Walks.{blocks_none}
 use Rattle.survey.proofs.value_settings.offer_value_settings.Goals as goal
 
 -- an argument that takes values
-pub returns-then-not-takes-none : goal.returns-then-not-takes-none
-returns-then-not-takes-none g c = record {
+pub returns-then-not-takes_none : goal.returns-then-not-takes_none
+returns-then-not-takes_none g c = record {
   took = λ f shows.
       let a = arg_of f c.args.place in
-      let takes : eqb (most a) 0 ≡ false = ap (λ r. eqb (most (bare r)) 0) (sym shows) ∙ sym c.takes-none.ensures ∙ c.if-not-takes-none.true in
+      let takes : eqb (most a) 0 ≡ false = ap (λ r. eqb (most (bare r)) 0) (sym shows) ∙ sym c.takes_none.ensures ∙ c.if-not-takes_none.true in
       let h = λ (k : ℕ) (_ : ℕ). when (eqb (most a) 0 && bit (bit_and a.settings 3568) k) (of_bit SettingWithoutValue (argument c.args.place) k) in
       rw (blocks_none h 0 (range_with_len 0 12) (λ k _. rw takes)) (g.S.Sink.none _);
-  goes = ap not c.is-full.ensures;
+  goes = ap not c.is_full.ensures;
 }
 
-pub offer-bits-requires : goal.offer-bits-requires
-offer-bits-requires g c = omega (arith, and_le_r c.bits.result 3568)
+pub offer_bits-requires : goal.offer_bits-requires
+offer_bits-requires g c = omega (arith, and_le_r c.bits.result 3568)
 
 pub returns : goal.returns
 returns g c = record {
   took = λ f shows.
       let p = c.args.place in
-      let takes : eqb (most (arg_of f p)) 0 ≡ true = ap (λ r. eqb (most (bare r)) 0) (sym shows) ∙ sym c.takes-none.ensures ∙ c.if-not-takes-none.false in
+      let takes : eqb (most (arg_of f p)) 0 ≡ true = ap (λ r. eqb (most (bare r)) 0) (sym shows) ∙ sym c.takes_none.ensures ∙ c.if-not-takes_none.false in
       let masked : c.bits.result ≡ (arg_of f p).settings = c.bits.ensures ∙ ap (λ r. r.settings) shows in
-      rw (takes, ← masked, ← c.argument_at.ensures) c.offer-bits.ensures.took;
-  goes = c.offer-bits.ensures.goes;
+      rw (takes, ← masked, ← c.argument_at.ensures) c.offer_bits.ensures.took;
+  goes = c.offer_bits.ensures.goes;
 }

@@ -13,7 +13,7 @@ pub loop-row-preserved : goal.loop-row-preserved
 loop-row-preserved g c =
     let size = g.R.HasItems.items in
     let rows = c.args.rows.now in
-    capped_sum c.saturating-add-total.result c.loop-row.total c.item-count.result (summed size (take c.loop-row.row-index rows)) (size c.row-item.result) c.loop-row.invariant c.item-count.ensures c.saturating-add-total.ensures
+    capped_sum c.saturating_add-total.result c.loop-row.total c.item_count.result (summed size (take c.loop-row.row-index rows)) (size c.row-item.result) c.loop-row.invariant c.item_count.ensures c.saturating_add-total.ensures
     ∙ ap capped (sym (summed_more size rows c.loop-row.row-index c.row-item.result (omega arith) c.row-item.is))
 
 pub returns : goal.returns

@@ -16,8 +16,8 @@ returns c =
     let args = c.args.args.now in
     let groups = c.args.groups.now in
     let subcommands = c.args.subcommands.now in
-    items_counted c.saturating-add-items.result c.total-items.result c.total-items-2.result c.total-items-3.result c.saturating-add.result
+    items_counted c.saturating_add-items.result c.total_items.result c.total_items-2.result c.total_items-3.result c.saturating_add.result
     (summed (λ r. arg_items (arg_of r)) args) (summed (λ r. group_items (group_of r)) groups) (summed (λ r. subcommand_items (subcommand_of r)) subcommands)
-    c.total-items.ensures c.total-items-2.ensures c.total-items-3.ensures c.saturating-add.ensures c.saturating-add-items.ensures
+    c.total_items.ensures c.total_items-2.ensures c.total_items-3.ensures c.saturating_add.ensures c.saturating_add-items.ensures
     ∙ items_decide (length args) (length groups) (length subcommands) _ c.if-args-gt-MAX-ARGS.false c.if-groups-gt-MAX-GROUPS.false c.if-subcommands-gt-MAX-SUBCOMMANDS.false
     ∙ sym (within_rows 0 args groups subcommands)

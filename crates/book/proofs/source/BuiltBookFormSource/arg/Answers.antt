@@ -11,14 +11,14 @@ pub returns-then-place-args : goal.returns-then-place-args
 unfolding tables_marked
 returns-then-place-args c =
     let rs = (tables_marked c.args.self.now.tables).rows in
-    let is = c.as-slice-args.ensures.value in
-    let at = at_entry (held arg_held) (arg_entry rs) c.as-slice-args.result.now c.args.place c.row-at.result.now blank_arg c.if-place-args.true c.row-at.ensures in
+    let is = c.as_slice-args.ensures.value in
+    let at = at_entry (held arg_held) (arg_entry rs) c.as_slice-args.result.now c.args.place c.row_at.result.now blank_arg c.if-place-args.true c.row_at.ensures in
     c.view.ensures ∙ ap arg_record (at ∙ ap (λ es. get_or (map (arg_entry rs) (map (held arg_held) es)) c.args.place blank_arg) is)
 
 pub returns-else-place-args : goal.returns-else-place-args
 unfolding tables_marked
 returns-else-place-args c =
     let rs = (tables_marked c.args.self.now.tables).rows in
-    let is = c.as-slice-args.ensures.value in
-    let past = past_entries (held arg_held) (arg_entry rs) c.as-slice-args.result.now c.args.place blank_arg c.if-place-args.false in
+    let is = c.as_slice-args.ensures.value in
+    let past = past_entries (held arg_held) (arg_entry rs) c.as_slice-args.result.now c.args.place blank_arg c.if-place-args.false in
     c.new.ensures ∙ ap arg_record (past ∙ ap (λ es. get_or (map (arg_entry rs) (map (held arg_held) es)) c.args.place blank_arg) is)

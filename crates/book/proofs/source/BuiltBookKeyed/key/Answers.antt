@@ -7,10 +7,10 @@ use Rattle.book.proofs.source.BuiltBookKeyed.key.Goals as goal
 
 pub returns-then-i-keys : goal.returns-then-i-keys
 returns-then-i-keys c =
-    let is = ap (λ ks. slice_get (map key_held ks) c.args.i) c.as-slice-keys.ensures.value ∙ ap (λ ks. slice_get ks c.args.i) (built_keys c.args.self.now) in
-    ap Some c.view.ensures ∙ some_at key_held c.as-slice-keys.result.now c.args.i c.row-at.result.now c.if-i-keys.true c.row-at.ensures ∙ is
+    let is = ap (λ ks. slice_get (map key_held ks) c.args.i) c.as_slice-keys.ensures.value ∙ ap (λ ks. slice_get ks c.args.i) (built_keys c.args.self.now) in
+    ap Some c.view.ensures ∙ some_at key_held c.as_slice-keys.result.now c.args.i c.row_at.result.now c.if-i-keys.true c.row_at.ensures ∙ is
 
 pub returns-else-i-keys : goal.returns-else-i-keys
 returns-else-i-keys c =
-    let is = ap (λ ks. slice_get (map key_held ks) c.args.i) c.as-slice-keys.ensures.value ∙ ap (λ ks. slice_get ks c.args.i) (built_keys c.args.self.now) in
-    none_at key_held c.as-slice-keys.result.now c.args.i c.if-i-keys.false ∙ is
+    let is = ap (λ ks. slice_get (map key_held ks) c.args.i) c.as_slice-keys.ensures.value ∙ ap (λ ks. slice_get ks c.args.i) (built_keys c.args.self.now) in
+    none_at key_held c.as_slice-keys.result.now c.args.i c.if-i-keys.false ∙ is

@@ -16,13 +16,13 @@ use Rattle.book.proofs.states.OpenBook.build.Goals as goal
 abbrev keys_in : List ItemRow → List (Held ArgHeld) → List Key
 keys_in rs es = keys_from 0 (map (arg_entry (map row_held rs)) (map (held arg_held) es))
 
-pub push-all-requires : goal.push-all-requires
+pub push_all-requires : goal.push_all-requires
 unfolding tables_marked
-push-all-requires c =
+push_all-requires c =
     let b = c.args.self in
     let t = b.tables in
     let xs = (form_of (tables_marked t)).args in
-    let same = ap (λ rs. keys_in rs c.as-slice.result.now) c.as-slice-2.ensures.value ∙ ap (keys_in (vec_items t.rows)) c.as-slice.ensures.value in
+    let same = ap (λ rs. keys_in rs c.as_slice.result.now) c.as_slice-2.ensures.value ∙ ap (keys_in (vec_items t.rows)) c.as_slice.ensures.value in
     omega (arith, keys_few 0 xs, arg_items_few t, entries_long (held arg_held) (arg_entry (tables_marked t).rows) (vec_items t.args), t.args.ok.0, t.few_args, ap length same, b.keys.ok.0, ap length b.none, b.room)
 
 pub invariant-of-result : goal.invariant-of-result
@@ -30,6 +30,6 @@ unfolding tables_marked
 invariant-of-result c =
     let b = c.args.self in
     let t = b.tables in
-    let same = ap (λ rs. keys_in rs c.as-slice.result.now) c.as-slice-2.ensures.value ∙ ap (keys_in (vec_items t.rows)) c.as-slice.ensures.value in
-    let all = c.push-all.ensures.items ∙ ap (λ ks. map key_held ks ++ keys_in c.as-slice-2.result.now c.as-slice.result.now) b.none ∙ same in
-    (keys_themselves _ (keys_of (form_of (tables_marked t))) all, (omega (arith, c.push-all.ensures.capacity, b.room), tt))
+    let same = ap (λ rs. keys_in rs c.as_slice.result.now) c.as_slice-2.ensures.value ∙ ap (keys_in (vec_items t.rows)) c.as_slice.ensures.value in
+    let all = c.push_all.ensures.items ∙ ap (λ ks. map key_held ks ++ keys_in c.as_slice-2.result.now c.as_slice.result.now) b.none ∙ same in
+    (keys_themselves _ (keys_of (form_of (tables_marked t))) all, (omega (arith, c.push_all.ensures.capacity, b.room), tt))

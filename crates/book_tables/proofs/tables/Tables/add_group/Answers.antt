@@ -7,30 +7,30 @@ use Rattle.book_tables.specs.Steps.{mark_answer}
 use Rattle.book_tables.proofs.Steps.{group_added, mark_given, table_push, table_long, marks_push, climbing_higher}
 use Rattle.book_tables.proofs.tables.Tables.add_group.Goals as goal
 
-pub returns-in-err-mark : goal.returns-in-err-mark
+pub returns-in_err-mark : goal.returns-in_err-mark
 unfolding tables_marked
-returns-in-err-mark c =
+returns-in_err-mark c =
     let s = c.args.self.now in
-    let p = err_from_is_err_and c.from-residual.result c.from-residual.ensures.1 in
+    let p = err_from_is_err_and c.from_residual.result c.from_residual.ensures.1 in
     let long = table_long (held name_bytes) (vec_items s.groups) _ _ c.len.ensures s.groups.ok.0 in
-    rw (p.1, p.2) (record { answer = c.in-err-mark.ensures ∙ ap (λ n. mark_answer (leb 16 n) s.next) long; after = refl })
+    rw (p.1, p.2) (record { answer = c.in_err-mark.ensures ∙ ap (λ n. mark_answer (leb 16 n) s.next) long; after = refl })
 
 pub invariant-of-self : goal.invariant-of-self
 invariant-of-self c =
     let s = c.args.self.now in
-    let given = mark_given (leb 16 c.len.result) s.next c.in-ok-mark.mark c.in-ok-mark.ensures in
+    let given = mark_given (leb 16 c.len.result) s.next c.in_ok-mark.mark c.in_ok-mark.ensures in
     let room = leb-false 16 c.len.result given.room in
     let top = ap (λ n. n + 1) given.is in
-    (omega arith, (omega arith, (omega arith, (omega arith, (omega arith, (omega arith, (omega arith, (omega arith, (omega arith, (rw top (climbing_higher 1 _ s.next s.args_order), (rw top (marks_push _ _ _ s.next c.push-reserved.ensures.items given.is s.groups_order), (rw top (climbing_higher 1 _ s.next s.subcommands_order), tt))))))))))))
+    (omega arith, (omega arith, (omega arith, (omega arith, (omega arith, (omega arith, (omega arith, (omega arith, (omega arith, (rw top (climbing_higher 1 _ s.next s.args_order), (rw top (marks_push _ _ _ s.next c.push_reserved.ensures.items given.is s.groups_order), (rw top (climbing_higher 1 _ s.next s.subcommands_order), tt))))))))))))
 
 pub returns : goal.returns
 unfolding tables_marked
 returns c =
     let s = c.args.self.now in
-    let given = mark_given (leb 16 c.len.result) s.next c.in-ok-mark.mark c.in-ok-mark.ensures in
+    let given = mark_given (leb 16 c.len.result) s.next c.in_ok-mark.mark c.in_ok-mark.ensures in
     let long = table_long (held name_bytes) (vec_items s.groups) _ _ c.len.ensures s.groups.ok.0 in
-    let more = table_push name_bytes (vec_items s.groups) _ _ s.next c.push-reserved.ensures.items given.is in
+    let more = table_push name_bytes (vec_items s.groups) _ _ s.next c.push_reserved.ensures.items given.is in
     record {
-      answer = c.in-ok-mark.ensures ∙ ap (λ n. mark_answer (leb 16 n) s.next) long;
+      answer = c.in_ok-mark.ensures ∙ ap (λ n. mark_answer (leb 16 n) s.next) long;
       after = group_added (tables_marked s) _ _ (name_bytes c.args.of) more (ap (λ n. n + 1) given.is);
     }

@@ -10,10 +10,10 @@ use Rattle.book_tables.proofs.Marks.{marks_replaced}
 use Rattle.book_tables.proofs.Alters.{table_replaced, alter_refused, alter_taken}
 use Rattle.book_tables.proofs.tables.Tables.alter_arg.Goals as goal
 
-pub returns-in-err-of : goal.returns-in-err-of
-returns-in-err-of c =
-    let p = err_from_is_err_and c.from-residual.result c.from-residual.ensures.1 in
-    let l = alter_refused (tables_marked c.args.self.now) c.args.mark (argument (arg_given c.args.details)) (kept (arg_given c.args.details)) _ (sym c.if-not-is-marked-as.ensures) c.in-err-of.ensures in
+pub returns-in_err-of : goal.returns-in_err-of
+returns-in_err-of c =
+    let p = err_from_is_err_and c.from_residual.result c.from_residual.ensures.1 in
+    let l = alter_refused (tables_marked c.args.self.now) c.args.mark (argument (arg_given c.args.details)) (kept (arg_given c.args.details)) _ (sym c.if-not-is_marked_as.ensures) c.in_err-of.ensures in
     rw (p.1, p.2) (record { answer = l.0; after = l.1 })
 
 pub invariant-of-self : goal.invariant-of-self
@@ -26,7 +26,7 @@ unfolding tables_marked
 returns c =
     let s = c.args.self.now in
     let m = tables_marked s in
-    let es = ap (map (held arg_held)) c.replace.ensures.items ∙ table_replaced arg_held c.args.mark c.in-ok-of.of (vec_items s.args) in
-    let l = alter_taken m _ c.args.mark (argument (arg_given c.args.details)) (kept (arg_given c.args.details)) _ (sym c.if-not-is-marked-as.ensures) c.in-ok-of.ensures
+    let es = ap (map (held arg_held)) c.replace.ensures.items ∙ table_replaced arg_held c.args.mark c.in_ok-of.of (vec_items s.args) in
+    let l = alter_taken m _ c.args.mark (argument (arg_given c.args.details)) (kept (arg_given c.args.details)) _ (sym c.if-not-is_marked_as.ensures) c.in_ok-of.ensures
     (λ is. ap {B = MarkedForm} (λ es. record { settings = m.settings; args = es; groups = m.groups; subcommands = m.subcommands; rows = m.rows; next = m.next }) (es ∙ ap (λ x. replaced c.args.mark x m.args) is)) in
     record { answer = l.0; after = l.1 }

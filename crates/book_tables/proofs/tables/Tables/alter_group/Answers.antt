@@ -20,7 +20,7 @@ unfolding tables_marked
 returns c =
     let s = c.args.self.now in
     let m = tables_marked s in
-    let es = ap (map (held name_bytes)) c.replace.ensures.items ∙ table_replaced name_bytes c.args.mark c.in-ok-of.of (vec_items s.groups) in
-    let l = alter_taken m _ c.args.mark (group c.args.id.now) c.args.id.now _ (sym c.if-not-is-marked-as.ensures) (c.in-ok-of.ensures ∙ group_gate c.args.id.now)
+    let es = ap (map (held name_bytes)) c.replace.ensures.items ∙ table_replaced name_bytes c.args.mark c.in_ok-of.of (vec_items s.groups) in
+    let l = alter_taken m _ c.args.mark (group c.args.id.now) c.args.id.now _ (sym c.if-not-is_marked_as.ensures) (c.in_ok-of.ensures ∙ group_gate c.args.id.now)
     (λ is. ap {B = MarkedForm} (λ es. record { settings = m.settings; args = m.args; groups = es; subcommands = m.subcommands; rows = m.rows; next = m.next }) (es ∙ ap (λ x. replaced c.args.mark x m.groups) is)) in
     record { answer = l.0; after = l.1 }

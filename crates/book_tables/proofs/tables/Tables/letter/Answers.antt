@@ -7,7 +7,7 @@ use Rattle.book_tables.proofs.tables.Tables.letter.Goals as goal
 pub returns-in-Some : goal.returns-in-Some
 unfolding tables_marked
 returns-in-Some c =
-    c.nth-letter.ensures ∙ ap (λ xs. get_or xs c.args.item 0) (ap (λ rs. letters_in c.in-Some.mark c.args.list (map row_held rs)) c.as-slice.ensures.value ∙ sym c.in-Some.ensures)
+    c.nth_letter.ensures ∙ ap (λ xs. get_or xs c.args.item 0) (ap (λ rs. letters_in c.in-Some.mark c.args.list (map row_held rs)) c.as_slice.ensures.value ∙ sym c.in-Some.ensures)
 
 pub returns-in-None : goal.returns-in-None
 returns-in-None c = ap (λ xs. get_or xs c.args.item 0) (sym c.in-None.ensures)

@@ -7,7 +7,7 @@ use Rattle.book_tables.proofs.tables.Tables.name_count.Goals as goal
 pub returns-in-Some : goal.returns-in-Some
 unfolding tables_marked
 returns-in-Some c =
-    c.count-names.ensures ∙ ap length (ap (λ rs. names_in c.in-Some.mark c.args.list (map row_held rs)) c.as-slice.ensures.value ∙ sym c.in-Some.ensures)
+    c.count_names.ensures ∙ ap length (ap (λ rs. names_in c.in-Some.mark c.args.list (map row_held rs)) c.as_slice.ensures.value ∙ sym c.in-Some.ensures)
 
 pub returns-in-None : goal.returns-in-None
 returns-in-None c = ap length (sym c.in-None.ensures)

@@ -6,17 +6,17 @@ use Rattle.book_tables.proofs.tables.Tables.new.Goals as goal
 pub invariant-of-result : goal.invariant-of-result
 unfolding climbing
 invariant-of-result c =
-    let a = c.in-ok-args.ensures in
-    let g = c.in-ok-groups.ensures in
-    let s = c.in-ok-subcommands.ensures in
-    let r = c.in-ok-rows.ensures in
+    let a = c.in_ok-args.ensures in
+    let g = c.in_ok-groups.ensures in
+    let s = c.in_ok-subcommands.ensures in
+    let r = c.in_ok-rows.ensures in
     (omega arith, (omega arith, (omega arith, (omega arith, (a.capacity, (g.capacity, (s.capacity, (r.capacity, (omega arith, (rw a.items, (rw g.items, (rw s.items, tt))))))))))))
 
 pub returns : goal.returns
 unfolding tables_marked
 returns c =
-    let a = c.in-ok-args.ensures.items in
-    let g = c.in-ok-groups.ensures.items in
-    let s = c.in-ok-subcommands.ensures.items in
-    let r = c.in-ok-rows.ensures.items in
-    rw (a, g, s, r, c.from-bits.ensures)
+    let a = c.in_ok-args.ensures.items in
+    let g = c.in_ok-groups.ensures.items in
+    let s = c.in_ok-subcommands.ensures.items in
+    let r = c.in_ok-rows.ensures.items in
+    rw (a, g, s, r, c.from_bits.ensures)

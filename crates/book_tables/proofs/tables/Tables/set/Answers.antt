@@ -7,4 +7,4 @@ pub returns : goal.returns
 unfolding tables_marked
 returns c =
     let m = tables_marked c.args.self.now in
-    ap {B = MarkedForm} (λ s. record { settings = s; args = m.args; groups = m.groups; subcommands = m.subcommands; rows = m.rows; next = m.next }) c.from-bits-self.ensures
+    ap {B = MarkedForm} (λ s. record { settings = s; args = m.args; groups = m.groups; subcommands = m.subcommands; rows = m.rows; next = m.next }) c.from_bits-self.ensures

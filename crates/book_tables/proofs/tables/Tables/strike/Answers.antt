@@ -53,5 +53,5 @@ returns c =
     let groups = ap (map (held name_bytes)) c.sweep-2.ensures.items ∙ map_kept_by (held name_bytes) (λ e. not (eqb e.mark k)) (vec_items s.groups) in
     let subcommands = ap (map (held subcommand_held)) c.sweep-3.ensures.items ∙ map_kept_by (held subcommand_held) (λ e. not (eqb e.mark k)) (vec_items s.subcommands) in
     let rows = ap (map row_held) c.sweep-4.ensures.items ∙ map_kept_by row_held (λ r. not (eqb r.owner k)) (vec_items s.rows) in
-    let l = strike_known (tables_marked s) _ k (sym c.if-not-is-marked.ensures) (rw (args, groups, subcommands, rows)) in
+    let l = strike_known (tables_marked s) _ k (sym c.if-not-is_marked.ensures) (rw (args, groups, subcommands, rows)) in
     record { answer = l.0; after = l.1 }

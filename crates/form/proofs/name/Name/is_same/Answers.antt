@@ -6,6 +6,6 @@ use Rattle.std.proofs.lemmas.Bool.Decides.{Decides-eqb}
 pub returns : goal.returns
 returns c =
     let d = slice_eq-Decides Decides-eqb _ _ _ c.eq.ensures in
-    let mine = c.as-bytes.ensures in
-    let its = c.as-bytes-2.ensures in
+    let mine = c.as_bytes.ensures in
+    let its = c.as_bytes-2.ensures in
     (λ t. sym mine ∙ d.0 t ∙ its, λ e. d.1 (mine ∙ e ∙ sym its))

@@ -4,5 +4,5 @@ use Rattle.form.proofs.name.Name.new.Goals as goal
 
 pub returns : goal.returns
 returns c =
-    let e = c.copy-from-slice.ensures.after in
+    let e = c.copy_from_slice.ensures.after in
     ap Ok (take_at _ _ _ (ap length e) ∙ e) ∙ sym (name_taken c.args.bytes.now (omega arith) (omega arith))

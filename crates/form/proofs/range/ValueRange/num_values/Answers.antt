@@ -4,8 +4,8 @@ use Rattle.form.specs.Bounds.{bounds}
 use Rattle.form.proofs.Counts.{only_fixed}
 use Rattle.form.proofs.range.ValueRange.num_values.Goals as goal
 
-pub returns-else-is-fixed : goal.returns-else-is-fixed
-returns-else-is-fixed c =
+pub returns-else-is_fixed : goal.returns-else-is_fixed
+returns-else-is_fixed c =
     let r = c.args.self.now in
-    let e = c.if-is-fixed.ensures.value in
+    let e = c.if-is_fixed.ensures.value in
     record { value = rw (← e); means = λ n o. clash (e ∙ eq-eqb _ _ (only_fixed (bounds r) n r.ordered o)) }

@@ -6,5 +6,5 @@ use Rattle.layers.proofs.standard_flags.StandardFlags.flag_count.Goals as goal
 pub returns : goal.returns
 returns g c =
     let f = g.K.FormSource.form c.args.self.now.inner in
-    c.min.ensures ∙ ap (λ n. min n (80 - c.arg-count.result)) c.wanted-count.ensures
-    ∙ ap (λ n. min (length (wanted f)) (80 - n)) c.arg-count.ensures ∙ fitting_count f
+    c.min.ensures ∙ ap (λ n. min n (80 - c.arg_count.result)) c.wanted_count.ensures
+    ∙ ap (λ n. min (length (wanted f)) (80 - n)) c.arg_count.ensures ∙ fitting_count f

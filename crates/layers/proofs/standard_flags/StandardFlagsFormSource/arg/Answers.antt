@@ -7,16 +7,16 @@ use Rattle.layers.proofs.standard_flags.StandardFlagsFormSource.arg.Goals as goa
 pub returns-then-place-own : goal.returns-then-place-own
 returns-then-place-own g c =
     let s = c.args.self.now.inner in
-    c.arg.ensures ∙ ap arg_record (own_arg (g.K.FormSource.form s) c.args.place (g.K.FormSource.fits s).args (omega (arith, c.arg-count-own.ensures)))
+    c.arg.ensures ∙ ap arg_record (own_arg (g.K.FormSource.form s) c.args.place (g.K.FormSource.fits s).args (omega (arith, c.arg_count-own.ensures)))
 
-pub returns-in-default : goal.returns-in-default
-returns-in-default g c =
+pub returns-in_default : goal.returns-in_default
+returns-in_default g c =
     let s = c.args.self.now.inner in
     let f = g.K.FormSource.form s in
-    c.new.ensures ∙ ap arg_record (no_arg_at f c.args.place (c.args.place - c.arg-count-own.result) (g.K.FormSource.fits s).args (omega (arith, c.arg-count-own.ensures)) c.in-default.ensures)
+    c.new.ensures ∙ ap arg_record (no_arg_at f c.args.place (c.args.place - c.arg_count-own.result) (g.K.FormSource.fits s).args (omega (arith, c.arg_count-own.ensures)) c.in_default.ensures)
 
 pub returns : goal.returns
 returns g c =
     let s = c.args.self.now.inner in
     let f = g.K.FormSource.form s in
-    c.view.ensures ∙ ap arg_record (flag_arg_at f c.args.place (c.args.place - c.arg-count-own.result) (flag_arg c.in-Some.flag) (g.K.FormSource.fits s).args (omega (arith, c.arg-count-own.ensures)) c.in-Some.ensures)
+    c.view.ensures ∙ ap arg_record (flag_arg_at f c.args.place (c.args.place - c.arg_count-own.result) (flag_arg c.in-Some.flag) (g.K.FormSource.fits s).args (omega (arith, c.arg_count-own.ensures)) c.in-Some.ensures)

@@ -5,4 +5,4 @@ use Rattle.layers.proofs.standard_flags.StandardFlagsFormSource.letter_count.Goa
 pub returns : goal.returns
 returns g c =
     let s = c.args.self.now.inner in
-    c.letter-count.ensures ∙ ap length (letters_kept (g.K.FormSource.form s) c.args.list c.args.place (g.K.FormSource.fits s).args)
+    c.letter_count.ensures ∙ ap length (letters_kept (g.K.FormSource.form s) c.args.list c.args.place (g.K.FormSource.fits s).args)

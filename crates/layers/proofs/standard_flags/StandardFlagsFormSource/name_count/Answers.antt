@@ -5,4 +5,4 @@ use Rattle.layers.proofs.standard_flags.StandardFlagsFormSource.name_count.Goals
 pub returns : goal.returns
 returns g c =
     let s = c.args.self.now.inner in
-    c.name-count.ensures ∙ ap length (names_kept (g.K.FormSource.form s) c.args.list c.args.place (g.K.FormSource.fits s).args)
+    c.name_count.ensures ∙ ap length (names_kept (g.K.FormSource.form s) c.args.list c.args.place (g.K.FormSource.fits s).args)

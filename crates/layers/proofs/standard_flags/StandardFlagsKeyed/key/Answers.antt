@@ -7,13 +7,13 @@ use Rattle.layers.proofs.standard_flags.StandardFlagsKeyed.key.Goals.{then-i-own
 pub returns-then-i-own : goal.returns-then-i-own
 returns-then-i-own g c =
     let s = c.args.self.now.inner in
-    c.key.ensures ∙ own_key (g.K.FormSource.form s) c.args.i (g.K.FormSource.fits s).args (omega (arith, c.key-count-own.ensures))
+    c.key.ensures ∙ own_key (g.K.FormSource.form s) c.args.i (g.K.FormSource.fits s).args (omega (arith, c.key_count-own.ensures))
 
-pub returns-in-default : goal.returns-in-default
-returns-in-default g c =
+pub returns-in_default : goal.returns-in_default
+returns-in_default g c =
     let s = c.args.self.now.inner in
-    let n = (c.args.i - c.key-count-own.result) / 2 in
-    no_flag_key (g.K.FormSource.form s) c.args.i n (g.K.FormSource.fits s).args (omega (arith, c.key-count-own.ensures)) c.in-default.ensures
+    let n = (c.args.i - c.key_count-own.result) / 2 in
+    no_flag_key (g.K.FormSource.form s) c.args.i n (g.K.FormSource.fits s).args (omega (arith, c.key_count-own.ensures)) c.in_default.ensures
 
 pub returns : goal.returns
 returns g c =
@@ -21,13 +21,13 @@ returns g c =
     let f = g.K.FormSource.form s in
     let few = (g.K.FormSource.fits s).args in
     let i = c.args.i in
-    let n = (i - c.key-count-own.result) / 2 in
+    let n = (i - c.key_count-own.result) / 2 in
     let x = c.in-Some.flag in
-    ap (λ q. Some (record { name = key_name c.if-i-own-eq0.name; place = q + n })) c.arg-count.ensures ∙ elim c.if-i-own-eq0.branch [
+    ap (λ q. Some (record { name = key_name c.if-i-own-eq0.name; place = q + n })) c.arg_count.ensures ∙ elim c.if-i-own-eq0.branch [
       | then-i-own-eq0 w ↦
           ap (λ k. Some (record { name = key_name k; place = length f.args + n })) w.name-is
-          ∙ flag_letter_key f i n w.letter.result x few (omega (arith, c.key-count-own.ensures, w.if-i-own-eq0.true)) c.in-Some.ensures w.letter.ensures
+          ∙ flag_letter_key f i n w.letter.result x few (omega (arith, c.key_count-own.ensures, w.if-i-own-eq0.true)) c.in-Some.ensures w.letter.ensures
       | else-i-own-eq0 w ↦
           ap (λ k. Some (record { name = key_name k; place = length f.args + n })) w.name-is
-          ∙ flag_long_key f i n w.name.result.now x few (omega (arith, c.key-count-own.ensures, w.if-i-own-eq0.false)) c.in-Some.ensures w.name.ensures
+          ∙ flag_long_key f i n w.name.result.now x few (omega (arith, c.key_count-own.ensures, w.if-i-own-eq0.false)) c.in-Some.ensures w.name.ensures
     ]

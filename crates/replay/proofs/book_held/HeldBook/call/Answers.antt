@@ -8,6 +8,6 @@ use Rattle.replay.proofs.book_held.HeldBook.call.Goals as goal
 
 pub returns-in-Built : goal.returns-in-Built
 returns-in-Built c = record {
-  answer = subst (λ w. IfOk c.call-built.result.1 (λ a. said a ≡ answer (under c.args.layers) (world w) (called c.args.call))) (sym c.in-Built.is) c.call-built.ensures.answer;
-  after = c.call-built.ensures.after ∙ ap (λ w. after (world w) (called c.args.call)) (sym c.in-Built.is);
+  answer = subst (λ w. IfOk c.call_built.result.1 (λ a. said a ≡ answer (under c.args.layers) (world w) (called c.args.call))) (sym c.in-Built.is) c.call_built.ensures.answer;
+  after = c.call_built.ensures.after ∙ ap (λ w. after (world w) (called c.args.call)) (sym c.in-Built.is);
 }

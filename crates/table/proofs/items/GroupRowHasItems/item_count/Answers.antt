@@ -6,6 +6,6 @@ use Rattle.table.proofs.items.GroupRowHasItems.item_count.Goals as goal
 pub returns : goal.returns
 returns c =
     let r = c.args.self.now in
-    let e1 = c.saturating-add.ensures in
-    let e2 = capped_more c.saturating-add-2.result c.saturating-add.result (length r.members.now + length r.requirements.now) (length r.conflicts.now) e1 c.saturating-add-2.ensures in
+    let e1 = c.saturating_add.ensures in
+    let e2 = capped_more c.saturating_add-2.result c.saturating_add.result (length r.members.now + length r.requirements.now) (length r.conflicts.now) e1 c.saturating_add-2.ensures in
     e2 ∙ ap capped (group_total r)

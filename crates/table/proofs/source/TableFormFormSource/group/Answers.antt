@@ -6,7 +6,7 @@ use Rattle.table.proofs.source.TableFormFormSource.group.Goals as goal
 
 pub returns-then-place-self : goal.returns-then-place-self
 returns-then-place-self c =
-    ap (λ g. g.id) (at_row group_of c.args.self.now.groups.now c.args.place c.row-at.result.now blank_group (omega arith) c.row-at.ensures)
+    ap (λ g. g.id) (at_row group_of c.args.self.now.groups.now c.args.place c.row_at.result.now blank_group (omega arith) c.row_at.ensures)
 
 pub returns-else-place-self : goal.returns-else-place-self
 returns-else-place-self c =

@@ -7,7 +7,7 @@ use Rattle.table.proofs.source.TableFormFormSource.subcommand.Goals as goal
 
 pub returns-then-place-self : goal.returns-then-place-self
 returns-then-place-self c =
-    ap subcommand_record (at_row subcommand_of c.args.self.now.subcommands.now c.args.place c.row-at.result.now blank_subcommand (omega arith) c.row-at.ensures)
+    ap subcommand_record (at_row subcommand_of c.args.self.now.subcommands.now c.args.place c.row_at.result.now blank_subcommand (omega arith) c.row_at.ensures)
 
 pub returns-else-place-self : goal.returns-else-place-self
 returns-else-place-self c =

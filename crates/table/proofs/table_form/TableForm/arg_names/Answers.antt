@@ -8,7 +8,7 @@ use Rattle.table.proofs.table_form.TableForm.arg_names.Goals as goal
 
 pub returns-then-place-self : goal.returns-then-place-self
 returns-then-place-self c =
-    c.names.ensures ∙ ap (λ e. arg_names e c.args.list) (at_row arg_of c.args.self.now.args.now c.args.place c.row-at.result.now blank_arg (omega arith) c.row-at.ensures)
+    c.names.ensures ∙ ap (λ e. arg_names e c.args.list) (at_row arg_of c.args.self.now.args.now c.args.place c.row_at.result.now blank_arg (omega arith) c.row_at.ensures)
 
 pub returns-else-place-self : goal.returns-else-place-self
 returns-else-place-self c =
