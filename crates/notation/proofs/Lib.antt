@@ -1,4 +1,5 @@
 pub mod Scans
+pub mod DigitScans
 pub mod Splits
 pub mod Feeds
 pub mod Leads

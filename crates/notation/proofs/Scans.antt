@@ -1,22 +1,26 @@
 -- One step of each scan: a digit more, a place further.
-use Rattle.std.proofs.Common.{◌≡◌, ℕ, zero, suc, ◌+◌, ◌-◌, ◌<◌, ◌≤◌, Bool, true, false, cond, ◌&&◌, eqb, ◌⊎◌, List, [], ◌∷◌, length, get_or, take, drop, Some, None, Option, sym, refl, ap, ◌∙◌, inl, inr, add-one, arith, drop-cons, eq-eqb, ne_eqb}
+use Rattle.std.proofs.Common.{◌≡◌, ℕ, zero, suc, ◌+◌, ◌-◌, ◌<◌, ◌≤◌, Bool, true, false, cond, ◌&&◌, eqb, ◌⊎◌, List, [], ◌∷◌, length, get_or, drop, Some, None, Option, sym, refl, ap, ◌∙◌, inl, inr, add-one, arith, drop-cons, eq-eqb, ne_eqb}
 use lib.Seq.{drop-nil}
-use Rattle.std.proofs.lemmas.List.{drop_all, take_rest}
+use Rattle.std.proofs.lemmas.List.{drop_all}
 use Rattle.std.proofs.lemmas.Bool.{cases_eq}
-use Rattle.notation.specs.Numbers.{more_digits, number_from, number_in, count_written}
+use Rattle.notation.specs.Numbers.{more_digits, number_from, number}
 use Rattle.notation.specs.RangeTexts.{dots_from, dots}
 
-pub number_step : (base n i : ℕ) (s : List ℕ) (o : Option ℕ) → i < length s → o ≡ more_digits base n (get_or s i 0) → number_from base (Some n) (drop i s) ≡ number_from base o (drop (i + 1) s)
-unfolding number_from
-number_step base n i s o h e = rw (drop-cons s i 0, add-one, e)
+pub number_some : (s : List ℕ) → (length s ≡ 0 → ⊥) → number_from (Some 0) s ≡ number s
+number_some [] h = absurd (h refl)
+number_some (c ∷ cs) h = refl
 
-pub number_stuck : (base : ℕ) (cs : List ℕ) → number_from base None cs ≡ None
+pub number_step : (n i : ℕ) (s : List ℕ) (o : Option ℕ) → i < length s → o ≡ more_digits n (get_or s i 0) → number_from (Some n) (drop i s) ≡ number_from o (drop (i + 1) s)
 unfolding number_from
-number_stuck base cs = refl
+number_step n i s o h e = rw (drop-cons s i 0, add-one, e)
 
-pub number_end : (base n i : ℕ) (s : List ℕ) → length s ≤ i → number_from base (Some n) (drop i s) ≡ Some n
+pub number_stuck : (cs : List ℕ) → number_from None cs ≡ None
 unfolding number_from
-number_end base n i s h = rw drop_all
+number_stuck cs = refl
+
+pub number_end : (n i : ℕ) (s : List ℕ) → length s ≤ i → number_from (Some n) (drop i s) ≡ Some n
+unfolding number_from
+number_end n i s h = rw drop_all
 
 -- the two bytes at places j and i, one after the other
 two : (s : List ℕ) (j i : ℕ) → i ≡ j + 1 → i < length s → drop j s ≡ get_or s j 0 ∷ (get_or s i 0 ∷ drop (suc i) s)
@@ -47,6 +51,3 @@ dots_end [] i p h = rw drop-nil
 dots_end (a ∷ []) zero p h = refl
 dots_end (a ∷ (b ∷ cs)) zero p h = absurd (omega arith)
 dots_end (a ∷ s) (suc i) p h = dots_end s i p (omega arith)
-
-pub count_hex : (s : List ℕ) (o : Option ℕ) → get_or s 0 0 ≡ 48 → get_or s 1 0 ≡ 120 → o ≡ number_in 16 (take (length s - 2) (drop 2 s)) → o ≡ count_written s
-count_hex s o a b e = e ∙ rw (eq-eqb (get_or s 0 0) 48 a, eq-eqb (get_or s 1 0) 120 b) (ap (number_in 16) (take_rest s 2))

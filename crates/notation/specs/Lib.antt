@@ -1,4 +1,5 @@
 pub mod Numbers
+pub mod Digits
 pub mod RangeTexts
 pub mod Read
 pub mod Small

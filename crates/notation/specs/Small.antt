@@ -1,6 +1,6 @@
 -- Numbers of fewer bits, and the codes of letters.
 use Rattle.std.specs.Prelude.{ℕ, cond, ◌&&◌, List, length, drop, Some, None, Option, ◌==◌, nat_le, nat_lt, slice_index}
-use Rattle.notation.specs.Numbers.{number_in, count_written}
+use Rattle.notation.specs.Digits.{number_in, count_written}
 
 -- the number, where it is below the limit
 abbrev pub below : ℕ → Option ℕ → Option ℕ

@@ -1,7 +1,7 @@
 ghost use Rattle.std.specs.Prelude.{◌≡◌};
 ghost use Rattle.notation.specs.Small.{narrowed, count_written_below, letter_written};
 
-use super::number::{read_count, read_digits};
+use super::digits::{read_count, read_digits};
 
 /// A number of 16 bits, in decimal digits or after `0x` in hexadecimal ones.
 pub fn read_u16(text: &[u8]) -> Option<u16>

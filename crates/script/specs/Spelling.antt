@@ -1,6 +1,6 @@
 -- How a name is spelled in a script: its bytes as they are, and `\xHH` for any byte.
 use Rattle.std.specs.Prelude.{◌≡◌, ℕ, ◌+◌, ◌*◌, ◌<◌, Bool, cond, ◌&&◌, List, [], ◌∷◌, length, Some, None, Option, ◌==◌, nat_lt}
-use Rattle.notation.specs.Numbers.{digit_value}
+use Rattle.notation.specs.Digits.{digit_value}
 
 -- a byte before the others
 abbrev pub before : ℕ → Option (List ℕ) → Option (List ℕ)

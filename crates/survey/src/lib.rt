@@ -1,5 +1,6 @@
 //! The survey of a form: one text that offers each breach, in the order of a report, to a sink.
 #![tactic(auto)]
+
 mod arguments;
 mod each;
 mod ends;

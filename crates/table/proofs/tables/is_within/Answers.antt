@@ -4,12 +4,12 @@ use Rattle.table.specs.Entries.{arg_of, group_of, subcommand_of}
 use Rattle.table.proofs.Caps.{within_rows, too_long, items_decide, items_counted}
 use Rattle.table.proofs.tables.is_within.Goals as goal
 
-pub returns-then-args-gt-MAX-ARGS : goal.returns-then-args-gt-MAX-ARGS
-returns-then-args-gt-MAX-ARGS c =
+pub returns-then-args-gt-MAX_ARGS : goal.returns-then-args-gt-MAX_ARGS
+returns-then-args-gt-MAX_ARGS c =
     let args = c.args.args.now in
     let groups = c.args.groups.now in
     let subcommands = c.args.subcommands.now in
-    too_long (length args) (length groups) (length subcommands) _ c.then-args-gt-MAX-ARGS.either ∙ sym (within_rows 0 args groups subcommands)
+    too_long (length args) (length groups) (length subcommands) _ c.then-args-gt-MAX_ARGS.either ∙ sym (within_rows 0 args groups subcommands)
 
 pub returns : goal.returns
 returns c =
@@ -19,5 +19,5 @@ returns c =
     items_counted c.saturating_add-items.result c.total_items.result c.total_items-2.result c.total_items-3.result c.saturating_add.result
     (summed (λ r. arg_items (arg_of r)) args) (summed (λ r. group_items (group_of r)) groups) (summed (λ r. subcommand_items (subcommand_of r)) subcommands)
     c.total_items.ensures c.total_items-2.ensures c.total_items-3.ensures c.saturating_add.ensures c.saturating_add-items.ensures
-    ∙ items_decide (length args) (length groups) (length subcommands) _ c.if-args-gt-MAX-ARGS.false c.if-groups-gt-MAX-GROUPS.false c.if-subcommands-gt-MAX-SUBCOMMANDS.false
+    ∙ items_decide (length args) (length groups) (length subcommands) _ c.if-args-gt-MAX_ARGS.false c.if-groups-gt-MAX_GROUPS.false c.if-subcommands-gt-MAX_SUBCOMMANDS.false
     ∙ sym (within_rows 0 args groups subcommands)

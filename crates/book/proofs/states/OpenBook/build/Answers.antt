@@ -25,9 +25,9 @@ push_all-requires c =
     let same = ap (λ rs. keys_in rs c.as_slice.result.now) c.as_slice-2.ensures.value ∙ ap (keys_in (vec_items t.rows)) c.as_slice.ensures.value in
     omega (arith, keys_few 0 xs, arg_items_few t, entries_long (held arg_held) (arg_entry (tables_marked t).rows) (vec_items t.args), t.args.ok.0, t.few_args, ap length same, b.keys.ok.0, ap length b.none, b.room)
 
-pub invariant-of-result : goal.invariant-of-result
+pub invariant_of-result : goal.invariant_of-result
 unfolding tables_marked
-invariant-of-result c =
+invariant_of-result c =
     let b = c.args.self in
     let t = b.tables in
     let same = ap (λ rs. keys_in rs c.as_slice.result.now) c.as_slice-2.ensures.value ∙ ap (keys_in (vec_items t.rows)) c.as_slice.ensures.value in

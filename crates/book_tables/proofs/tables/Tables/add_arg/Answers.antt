@@ -14,8 +14,8 @@ returns-in_err-mark c =
     let long = table_long (held arg_held) (vec_items s.args) _ _ c.len.ensures s.args.ok.0 in
     rw (p.1, p.2) (record { answer = c.in_err-mark.ensures ∙ ap (λ n. mark_answer (leb 64 n) s.next) long; after = refl })
 
-pub invariant-of-self : goal.invariant-of-self
-invariant-of-self c =
+pub invariant_of-self : goal.invariant_of-self
+invariant_of-self c =
     let s = c.args.self.now in
     let given = mark_given (leb 64 c.len.result) s.next c.in_ok-mark.mark c.in_ok-mark.ensures in
     let room = leb-false 64 c.len.result given.room in

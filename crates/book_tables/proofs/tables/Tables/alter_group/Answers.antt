@@ -10,8 +10,8 @@ use Rattle.book_tables.proofs.Gates.{group_gate}
 use Rattle.book_tables.proofs.Alters.{table_replaced, alter_taken}
 use Rattle.book_tables.proofs.tables.Tables.alter_group.Goals as goal
 
-pub invariant-of-self : goal.invariant-of-self
-invariant-of-self c =
+pub invariant_of-self : goal.invariant_of-self
+invariant_of-self c =
     let s = c.args.self.now in
     (omega arith, (omega arith, (omega arith, (omega arith, (omega arith, (omega arith, (omega arith, (omega arith, (omega arith, (s.args_order, (ap (λ es. climbing 1 (marks es) s.next) c.replace.ensures.items ∙ ap (λ ms. climbing 1 ms s.next) (marks_replaced _ _ (vec_items s.groups)) ∙ s.groups_order, (s.subcommands_order, tt))))))))))))
 

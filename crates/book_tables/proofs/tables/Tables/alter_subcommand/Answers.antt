@@ -16,8 +16,8 @@ returns-in_err-of c =
     let l = alter_refused (tables_marked c.args.self.now) c.args.mark (subcommand (subcommand_given c.args.details)) (subcommand_given c.args.details) _ (sym c.if-not-is_marked_as.ensures) c.in_err-of.ensures in
     rw (p.1, p.2) (record { answer = l.0; after = l.1 })
 
-pub invariant-of-self : goal.invariant-of-self
-invariant-of-self c =
+pub invariant_of-self : goal.invariant_of-self
+invariant_of-self c =
     let s = c.args.self.now in
     (omega arith, (omega arith, (omega arith, (omega arith, (omega arith, (omega arith, (omega arith, (omega arith, (omega arith, (s.args_order, (s.groups_order, (ap (λ es. climbing 1 (marks es) s.next) c.replace.ensures.items ∙ ap (λ ms. climbing 1 ms s.next) (marks_replaced _ _ (vec_items s.subcommands)) ∙ s.subcommands_order, tt))))))))))))
 

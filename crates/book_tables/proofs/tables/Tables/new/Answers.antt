@@ -3,9 +3,9 @@ use Rattle.book_tables.specs.Marks.{climbing}
 use Rattle.book_tables.specs.Tables.{tables_marked}
 use Rattle.book_tables.proofs.tables.Tables.new.Goals as goal
 
-pub invariant-of-result : goal.invariant-of-result
+pub invariant_of-result : goal.invariant_of-result
 unfolding climbing
-invariant-of-result c =
+invariant_of-result c =
     let a = c.in_ok-args.ensures in
     let g = c.in_ok-groups.ensures in
     let s = c.in_ok-subcommands.ensures in

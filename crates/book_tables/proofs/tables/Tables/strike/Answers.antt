@@ -6,8 +6,8 @@ use Rattle.book_tables.proofs.Marks.{climbing_kept}
 use Rattle.book_tables.proofs.Alters.{map_kept_by, strike_known}
 use Rattle.book_tables.proofs.tables.Tables.strike.Goals as goal
 
-pub invariant-of-self : goal.invariant-of-self
-invariant-of-self c =
+pub invariant_of-self : goal.invariant_of-self
+invariant_of-self c =
     let s = c.args.self.now in
     let k = c.args.mark in (
       omega arith,

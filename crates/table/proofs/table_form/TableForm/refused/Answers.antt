@@ -2,6 +2,6 @@ use Rattle.std.proofs.Common.{refl}
 use Rattle.form.specs.Limits.{summed}
 use Rattle.table.proofs.table_form.TableForm.refused.Goals as goal
 
-pub invariant-of-result : goal.invariant-of-result
+pub invariant_of-result : goal.invariant_of-result
 unfolding summed
-invariant-of-result c = (refl, tt)
+invariant_of-result c = (refl, tt)
