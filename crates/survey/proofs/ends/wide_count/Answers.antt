@@ -15,8 +15,8 @@ loop-place-preserved g c =
     let is : c.is_wide.result ≡ wide (get_or args i blank_arg) = c.is_wide.ensures ∙ ap (λ r. wide (bare r)) c.arg.ensures in
     let more = rw (← is) at (length-filter_more wide args i blank_arg lt) in
     elim c.if-is_wide.branch [
-      | then-is_wide w ↦ let e = rw w.if-is_wide.true at more in (omega (arith, e, w.count_is, c.loop-place.invariant.0), omega (arith, w.count_is, c.loop-place.invariant.1))
-      | else-is_wide w ↦ let e = rw w.if-is_wide.false at more in (omega (arith, e, w.count_is, c.loop-place.invariant.0), omega (arith, w.count_is, c.loop-place.invariant.1))
+      | then-is_wide w ↦ let e = rw w.if-is_wide.true at more in (omega (arith, e, w.count-is, c.loop-place.invariant.0), omega (arith, w.count-is, c.loop-place.invariant.1))
+      | else-is_wide w ↦ let e = rw w.if-is_wide.false at more in (omega (arith, e, w.count-is, c.loop-place.invariant.0), omega (arith, w.count-is, c.loop-place.invariant.1))
     ]
 
 pub returns : goal.returns

@@ -8,8 +8,8 @@ loop-place-preserved g c =
     let xs = (g.F.FormSource.form c.args.form.now).args in
     let index = ap (λ r. r.index) (sym c.arg.ensures) in
     elim c.match-arg.branch [
-      | in-Some w ↦ rw (w.count_is, w.highest_is, w.max-highest.ensures) (counted_more xs c.loop-place.place _ _ _ (omega arith) (index ∙ w.in-Some.is) c.loop-place.invariant)
-      | in_default w ↦ rw (w.count_is, w.highest_is) (counted_skip xs c.loop-place.place _ _ (omega arith) (index ∙ w.in_default.is) c.loop-place.invariant)
+      | in-Some w ↦ rw (w.count-is, w.highest-is, w.max-highest.ensures) (counted_more xs c.loop-place.place _ _ _ (omega arith) (index ∙ w.in-Some.is) c.loop-place.invariant)
+      | in_default w ↦ rw (w.count-is, w.highest-is) (counted_skip xs c.loop-place.place _ _ (omega arith) (index ∙ w.in_default.is) c.loop-place.invariant)
     ]
 
 pub returns : goal.returns

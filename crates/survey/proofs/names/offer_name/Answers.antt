@@ -6,7 +6,7 @@ use Rattle.survey.specs.Called.{name_of}
 use Rattle.survey.proofs.TakenNames.{up_to_length, up_to_at}
 use Rattle.sinks.proofs.Walks.{walk_step, walk_end, walk_stop, stopped}
 use Rattle.survey.proofs.names.offer_name.Goals as goal
-use Rattle.survey.proofs.names.offer_name.Goals.{else-loop-place-test, then-loop-place-test+else-not-offer_taken+else·-place-later}
+use Rattle.survey.proofs.names.offer_name.Goals.{else-loop-place-test, then-loop-place-test+else-not-offer_taken+else-place-later}
 
 pub loop-place-preserved : goal.loop-place-preserved
 loop-place-preserved g c =
@@ -46,7 +46,7 @@ returns g c =
     let ss = take (suc p) f.subcommands in
     let took : s.after c.args.sink.now (blocks h 0 ss) c.loop-place-test.sink = elim c.loop-place-test.branch [
       | else-loop-place-test w ↦ absurd (omega (arith, w.loop-place-test.false))
-      | then-loop-place-test+else-not-offer_taken+else·-place-later w ↦
+      | then-loop-place-test+else-not-offer_taken+else-place-later w ↦
           let le : length ss ≤ q + 1 = rw (up_to_length f p c.requires) (omega arith) in
           let lt : q < length ss = rw (up_to_length f p c.requires) (omega arith) in
           let here = subst (λ t. s.after c.loop-place.sink (h q t) c.loop-place-test.sink) (sym (up_to_at f p q (omega arith))) (rw w.sink-is w.offer_taken.ensures.took) in

@@ -13,12 +13,12 @@ loop-turn-init g c = (c.requires, omega arith, λ u a. a)
 
 pub overflow_shl-left : goal.overflow_shl-left
 overflow_shl-left g c =
-    let low = turn (of_bit SettingWithoutValue c.args.owner) c.args.settings c.loop-turn.left c.loop-turn.-turn c.loop-turn.invariant.0 c.loop-turn.invariant.1 c.loop-turn-test.true in
+    let low = turn (of_bit SettingWithoutValue c.args.owner) c.args.settings c.loop-turn.left c.loop-turn._turn c.loop-turn.invariant.0 c.loop-turn.invariant.1 c.loop-turn-test.true in
     omega (arith, low.few)
 
 pub overflow_sub-left : goal.overflow_sub-left
 overflow_sub-left g c =
-    let low = turn (of_bit SettingWithoutValue c.args.owner) c.args.settings c.loop-turn.left c.loop-turn.-turn c.loop-turn.invariant.0 c.loop-turn.invariant.1 c.loop-turn-test.true in
+    let low = turn (of_bit SettingWithoutValue c.args.owner) c.args.settings c.loop-turn.left c.loop-turn._turn c.loop-turn.invariant.0 c.loop-turn.invariant.1 c.loop-turn-test.true in
     rw (one_shl (count_trailing_zeros 16 c.loop-turn.left) 16 (omega (arith, low.few))) low.low
 
 pub loop-turn-preserved : goal.loop-turn-preserved
@@ -26,7 +26,7 @@ loop-turn-preserved g c =
     let k = g.S.Sink in
     let b = of_bit SettingWithoutValue c.args.owner in
     let z = count_trailing_zeros 16 c.loop-turn.left in
-    let low = turn b c.args.settings c.loop-turn.left c.loop-turn.-turn c.loop-turn.invariant.0 c.loop-turn.invariant.1 c.loop-turn-test.true in
+    let low = turn b c.args.settings c.loop-turn.left c.loop-turn._turn c.loop-turn.invariant.0 c.loop-turn.invariant.1 c.loop-turn-test.true in
     rw (one_shl z 16 (omega (arith, low.few))) (
       omega (arith, c.loop-turn.invariant.0),
       omega (arith, low.count, c.loop-turn.invariant.1),
@@ -38,7 +38,7 @@ returns-then-not-offer g c =
     let k = g.S.Sink in
     let b = of_bit SettingWithoutValue c.args.owner in
     let z = count_trailing_zeros 16 c.loop-turn.left in
-    let low = turn b c.args.settings c.loop-turn.left c.loop-turn.-turn c.loop-turn.invariant.0 c.loop-turn.invariant.1 c.loop-turn-test.true in
+    let low = turn b c.args.settings c.loop-turn.left c.loop-turn._turn c.loop-turn.invariant.0 c.loop-turn.invariant.1 c.loop-turn-test.true in
     let full = stopped _ _ c.offer.ensures.goes c.if-not-offer.true in
     record {
       took = rw (told_all b c.args.settings 12) (c.loop-turn.invariant.2 _ (rw (turn_told b c.loop-turn.left z low) (k.more _ _ _ _ _ (rw c.of_bit.ensures at c.offer.ensures.took) (k.stays _ _ full))));

@@ -4,4 +4,4 @@ use Rattle.table.proofs.table_form.TableForm.refused.Goals as goal
 
 pub invariant_of-result : goal.invariant_of-result
 unfolding summed
-invariant_of-result c = (refl, tt)
+invariant_of-result c = record { fits = refl }
