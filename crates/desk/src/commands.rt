@@ -3,8 +3,6 @@ use super::options::{Options, read_options};
 use super::usage::USAGE;
 use anyhow::anyhow;
 use console::{say_ranges, say_tour};
-use console_runs::{read_script, say_answers, say_faults, say_run};
-use replay::Layers;
 use std::env;
 
 /// Does what the words after the program's name ask for.
@@ -17,7 +15,6 @@ pub fn run(rt: &HostRuntime) -> anyhow::Result<()> {
     let options = read_options(rt.alloc(), words)?;
     match command.as_str() {
         "ranges" => ranges(rt, &options),
-        "replay" => replay(rt, &options),
         "tour" => print_tour(rt, options.plain),
         "samples" => samples(rt),
         "help" | "--help" | "-h" => help(rt),
@@ -50,38 +47,6 @@ fn print_ranges(rt: &HostRuntime, file: &str, plain: bool) -> anyhow::Result<()>
     Ok(())
 }
 
-fn replay(rt: &HostRuntime, options: &Options) -> anyhow::Result<()> {
-    let Some(file) = options.only_file() else {
-        return Err(anyhow!("`desk replay` takes one script, or - for standard input"));
-    };
-    print_replay(rt, file, options.plain, options.layers)
-}
-
-fn print_replay(rt: &HostRuntime, file: &str, plain: bool, layers: Layers) -> anyhow::Result<()> {
-    let heap = rt.alloc();
-    let script = read_file(rt, file)?;
-    let text = read_script(heap, script.as_slice())?;
-    let mut out = String::new(heap);
-    if !text.faults.is_empty() {
-        say_faults(&mut out, script.as_slice(), text.faults.as_slice())?;
-        rt.eprint(out)?;
-        return Err(anyhow!("the script has lines that are no calls, so nothing was run"));
-    }
-    if plain {
-        say_answers(heap, &mut out, layers, text.lines.as_slice())?;
-    } else {
-        say_run(
-            heap,
-            &mut out,
-            layers,
-            script.as_slice(),
-            text.lines.as_slice(),
-        )?;
-    }
-    rt.print(out)?;
-    Ok(())
-}
-
 fn print_tour(rt: &HostRuntime, plain: bool) -> anyhow::Result<()> {
     let mut out = String::new(rt.alloc());
     say_tour(&mut out, plain)?;
@@ -95,12 +60,6 @@ fn samples(rt: &HostRuntime) -> anyhow::Result<()> {
     print_ranges(rt, "samples/ranges.txt", false)?;
     println!(rt; "$ desk ranges --plain samples/ranges.txt")?;
     print_ranges(rt, "samples/ranges.txt", true)?;
-    println!(rt; "$ desk replay samples/incident.calls")?;
-    print_replay(rt, "samples/incident.calls", false, Layers::None)?;
-    println!(rt; "$ desk replay --plain samples/incident.calls")?;
-    print_replay(rt, "samples/incident.calls", true, Layers::None)?;
-    println!(rt; "$ desk replay --plain --flags 2 samples/incident.calls")?;
-    print_replay(rt, "samples/incident.calls", true, Layers::Two)?;
     println!(rt; "$ desk tour")?;
     print_tour(rt, false)?;
     println!(rt; "$ desk tour --plain")?;

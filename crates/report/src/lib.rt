@@ -1,5 +1,6 @@
 //! The public calls on a form's breaches: all of them in a list, or the first.
 #![tactic(auto)]
+
 mod calls;
 mod short;
 
