@@ -1,5 +1,6 @@
 //! What the desk says: each command as a function from its input to the text that it prints.
 #![tactic(auto)]
+
 mod breaches;
 mod ranges;
 mod text;

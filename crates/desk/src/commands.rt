@@ -1,12 +1,12 @@
+use super::failure::Failure;
 use super::files::read_file;
 use super::options::{Options, read_options};
 use super::usage::USAGE;
-use anyhow::anyhow;
 use console::{say_ranges, say_tour};
 use std::env;
 
 /// Does what the words after the program's name ask for.
-pub fn run(rt: &HostRuntime) -> anyhow::Result<()> {
+pub fn run(rt: &HostRuntime) -> Result<(), Failure> {
     let mut words = env::args(rt)?;
     let _ = words.next();
     let Some(command) = words.next() else {
@@ -22,24 +22,24 @@ pub fn run(rt: &HostRuntime) -> anyhow::Result<()> {
             let message = format!(in rt.alloc();
                 "there is no command `{other}`; `desk help` lists what there is"
             )?;
-            Err(message.into())
+            Err(Failure::Refused(message))
         }
     }
 }
 
-fn help(rt: &HostRuntime) -> anyhow::Result<()> {
+fn help(rt: &HostRuntime) -> Result<(), Failure> {
     rt.print(USAGE)?;
     Ok(())
 }
 
-fn ranges(rt: &HostRuntime, options: &Options) -> anyhow::Result<()> {
+fn ranges(rt: &HostRuntime, options: &Options) -> Result<(), Failure> {
     let Some(file) = options.only_file() else {
-        return Err(anyhow!("`desk ranges` takes one file, or - for standard input"));
+        return Err(Failure::Misused("`desk ranges` takes one file, or - for standard input"));
     };
     print_ranges(rt, file, options.plain)
 }
 
-fn print_ranges(rt: &HostRuntime, file: &str, plain: bool) -> anyhow::Result<()> {
+fn print_ranges(rt: &HostRuntime, file: &str, plain: bool) -> Result<(), Failure> {
     let input = read_file(rt, file)?;
     let mut out = String::new(rt.alloc());
     let _ = say_ranges(&mut out, &input, plain)?;
@@ -47,7 +47,7 @@ fn print_ranges(rt: &HostRuntime, file: &str, plain: bool) -> anyhow::Result<()>
     Ok(())
 }
 
-fn print_tour(rt: &HostRuntime, plain: bool) -> anyhow::Result<()> {
+fn print_tour(rt: &HostRuntime, plain: bool) -> Result<(), Failure> {
     let mut out = String::new(rt.alloc());
     say_tour(&mut out, plain)?;
     rt.print(out)?;
@@ -55,7 +55,7 @@ fn print_tour(rt: &HostRuntime, plain: bool) -> anyhow::Result<()> {
 }
 
 // Each command on the samples that come with the program.
-fn samples(rt: &HostRuntime) -> anyhow::Result<()> {
+fn samples(rt: &HostRuntime) -> Result<(), Failure> {
     println!(rt; "$ desk ranges samples/ranges.txt")?;
     print_ranges(rt, "samples/ranges.txt", false)?;
     println!(rt; "$ desk ranges --plain samples/ranges.txt")?;

@@ -1,9 +1,10 @@
+use super::failure::Failure;
 use std::alloc::{AllocError, Global};
 use std::io::Read;
 use std::{fs, io};
 
 /// The bytes of a file, or of standard input where the file is `-`.
-pub fn read_file(rt: &HostRuntime, file: &str) -> anyhow::Result<Vec<u8>> {
+pub fn read_file(rt: &HostRuntime, file: &str) -> Result<Vec<u8>, Failure> {
     let read = if file == "-" {
         read_input(rt)
     } else {
@@ -11,7 +12,7 @@ pub fn read_file(rt: &HostRuntime, file: &str) -> anyhow::Result<Vec<u8>> {
     };
     match read {
         Ok(bytes) => Ok(bytes),
-        Err(error) => Err(unreadable(rt.alloc(), file, error)?.into()),
+        Err(error) => Err(Failure::Refused(unreadable(rt.alloc(), file, error)?)),
     }
 }
 

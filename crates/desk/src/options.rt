@@ -1,3 +1,4 @@
+use super::failure::Failure;
 use std::alloc::Global;
 use std::env::Args;
 
@@ -20,7 +21,7 @@ impl Options {
 }
 
 /// Reads the words that follow a command.
-pub fn read_options(heap: Global, words: Args) -> anyhow::Result<Options> {
+pub fn read_options(heap: Global, words: Args) -> Result<Options, Failure> {
     let mut options = Options {
         plain: false,
         files: Vec::new(heap),
@@ -32,7 +33,7 @@ pub fn read_options(heap: Global, words: Args) -> anyhow::Result<Options> {
             let message = format!(in heap;
                 "there is no option `{word}`; `desk help` lists what there is"
             )?;
-            return Err(message.into());
+            return Err(Failure::Refused(message));
         } else {
             options.files.push(word)?;
         }
