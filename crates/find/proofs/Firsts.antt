@@ -1,5 +1,5 @@
 -- The first key that is the one sought.
-use Rattle.std.proofs.Common.{◌≡◌, ℕ, zero, suc, ◌+◌, ◌<◌, ◌≤◌, Bool, true, false, cond, List, [], ◌∷◌, length, drop, Some, None, Ok, Err, Option, Result, sym, refl, ap, ◌∙◌, subst, add-one, arith, eq-eqb, eqb-true}
+use Rattle.std.proofs.Common.{◌≡◌, ℕ, zero, suc, ◌+◌, ◌<◌, ◌≤◌, Bool, true, false, cond, List, [], ◌∷◌, length, drop, Some, None, Option, Result, sym, refl, ap, ◌∙◌, add-one, arith, eq-eqb, eqb-true}
 use lib.Seq.{drop-nil}
 use borrow.Author.Tests.{clash}
 use Rattle.std.specs.Option.{ok_or}

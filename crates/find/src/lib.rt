@@ -1,5 +1,6 @@
 //! Finding an argument by one of its keys, in any keyed form.
 #![tactic(auto)]
+
 mod by_kind;
 mod search;
 

@@ -1,14 +1,14 @@
 -- The keys of one argument, found by place, and the keys of the arguments from a place on.
-use Rattle.std.proofs.Common.{◌≡◌, ℕ, zero, suc, ◌+◌, ◌-◌, ◌<◌, ◌≤◌, true, false, List, [], ◌∷◌, ◌++◌, map, length, get_or, drop, is_some, Some, None, Option, sym, refl, ap, ◌∙◌, append_assoc, add-one, arith, length-append}
+use Rattle.std.proofs.Common.{◌≡◌, ℕ, zero, suc, ◌+◌, ◌-◌, ◌<◌, ◌≤◌, false, List, [], ◌∷◌, ◌++◌, map, length, get_or, drop, is_some, Some, None, Option, sym, refl, ap, ◌∙◌, append_assoc, add-one, arith, length-append}
 use borrow.Author.Tests.{clash}
 use Rattle.std.specs.List.{slice_get}
 use Rattle.std.specs.Option.{option_map}
 use Rattle.std.proofs.lemmas.List.{length-map, drop_more, drop_all}
-use Rattle.form.specs.Model.{Name, Arg, Form, blank_arg}
-use Rattle.form.specs.Keys.{Key, KeyName, letter, long, listed, key_names, arg_keys, keys_from, keys_of}
+use Rattle.form.specs.Model.{Arg, Form, blank_arg}
+use Rattle.form.specs.Keys.{KeyName, letter, long, listed, key_names, arg_keys, keys_from, keys_of}
 use Rattle.keys.specs.KeysAt.{long_names, own_names, names_at_place}
 use Rattle.form.specs.Limits.{Fits, arg_items, summed}
-use Rattle.keys.proofs.KeyLists.{nth_left, nth_right, names_few, form_keys_few}
+use Rattle.keys.proofs.KeyLists.{nth_left, nth_right, names_few}
 
 nth_map : {X Y : Type 0} (f : X → Y) (xs : List X) (i : ℕ) → slice_get (map f xs) i ≡ option_map f (slice_get xs i)
 nth_map f [] i = refl

@@ -1,9 +1,9 @@
 -- The keys of a row of arguments: split in two, and how many there are at most; and what stands at a place of two lists joined.
-use Rattle.std.proofs.Common.{◌≡◌, ℕ, zero, suc, ◌+◌, ◌*◌, ◌<◌, ◌≤◌, List, [], ◌∷◌, ◌++◌, map, length, Some, None, Option, sym, refl, ap, ◌∙◌, append_assoc, add-zero, zero-add, arith, length-append}
+use Rattle.std.proofs.Common.{◌≡◌, ℕ, zero, suc, ◌+◌, ◌*◌, ◌<◌, ◌≤◌, List, [], ◌∷◌, ◌++◌, length, Some, None, Option, sym, refl, ap, ◌∙◌, append_assoc, add-zero, zero-add, arith, length-append}
 use Rattle.std.proofs.lemmas.List.{length-map}
 use Rattle.std.specs.List.{slice_get}
 use Rattle.form.specs.Model.{Arg, Form}
-use Rattle.form.specs.Keys.{Key, KeyName, letter, long, listed, key_names, arg_keys, keys_from, keys_of}
+use Rattle.form.specs.Keys.{listed, key_names, arg_keys, keys_from, keys_of}
 use Rattle.form.specs.Limits.{Fits, arg_items, summed}
 
 pub nth_left : {X : Type 0} (xs ys : List X) (i : ℕ) → i < length xs → slice_get (xs ++ ys) i ≡ slice_get xs i

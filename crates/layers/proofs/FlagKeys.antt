@@ -1,5 +1,5 @@
 -- The keys of a form with its standard flags: after the form's own come two for each flag that fits, letter and long name.
-use Rattle.std.proofs.Common.{◌≡◌, ℕ, zero, suc, ◌+◌, ◌-◌, ◌*◌, ◌<◌, ◌≤◌, Bool, true, false, List, [], ◌∷◌, ◌++◌, map, length, take, Some, None, Option, sym, refl, ap, ◌∙◌, add-zero, zero-add, arith, length-append}
+use Rattle.std.proofs.Common.{◌≡◌, ℕ, zero, suc, ◌+◌, ◌-◌, ◌*◌, ◌<◌, ◌≤◌, Bool, true, false, List, [], ◌∷◌, ◌++◌, map, length, take, Some, None, Option, sym, refl, ap, ◌∙◌, arith, length-append}
 use Rattle.std.specs.List.{slice_get}
 use Rattle.std.specs.Option.{option_map}
 use Rattle.std.proofs.lemmas.List.{take-map, length-map}
@@ -7,7 +7,7 @@ use Rattle.std.proofs.lemmas.Option.{slice_get_past}
 use Rattle.form.specs.Model.{Arg, Form}
 use Rattle.form.specs.Keys.{Key, letter, long, arg_keys, keys_from, keys_of}
 use Rattle.keys.proofs.KeyLists.{keys_append, nth_left, nth_right}
-use Rattle.layers.specs.Flags.{help, version, where_wanted, wanted, wants_help, wants_version, with_flags}
+use Rattle.layers.specs.Flags.{help, version, where_wanted, wants_help, wants_version, with_flags}
 use Rattle.layers.specs.Room.{fitting}
 use Rattle.layers.specs.Named.{flag_arg}
 use Rattle.layers.specs.declared.flag.Flag.{Flag}

@@ -1,7 +1,7 @@
 -- A form with its standard flags is within the limits, since the flags have no items.
-use Rattle.std.specs.Prelude.{◌≡◌, ℕ, zero, suc, ◌+◌, ◌-◌, ◌≤◌, min, Bool, true, false, List, [], ◌∷◌, ◌++◌, length, take, refl}
-use Rattle.std.proofs.Common.{sym, ap, ◌∙◌, arith, length-take}
-use Rattle.form.specs.Model.{Arg, Form}
+use Rattle.std.specs.Prelude.{◌≡◌, ℕ, zero, suc, ◌+◌, ◌≤◌, Bool, true, false, List, [], ◌∷◌, ◌++◌, take, refl}
+use Rattle.std.proofs.Common.{arith, length-take}
+use Rattle.form.specs.Model.{Form}
 use Rattle.form.specs.Limits.{Fits, summed, arg_items}
 use Rattle.layers.specs.Flags.{help, version, where_wanted, wanted, wants_help, wants_version, with_flags}
 

@@ -1,5 +1,6 @@
 //! Layers: keyed forms that lie over a keyed form.
 #![tactic(auto)]
+
 mod flag;
 mod standard_flags;
 

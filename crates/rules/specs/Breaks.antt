@@ -1,6 +1,6 @@
 -- When a form breaks a rule, and what the breach tells: one clause for each rule, in the words of Words.antt.
 -- This page shares no condition with what runs.
-use Rattle.std.specs.Prelude.{◌≡◌, ℕ, suc, ◌<◌, ◌≤◌, true, false, ◌⊎◌, List, [], Some, None, ◌≢◌}
+use Rattle.std.specs.Prelude.{◌≡◌, ℕ, suc, ◌<◌, ◌≤◌, true, false, ◌⊎◌, Some, None, ◌≢◌}
 use Rattle.form.specs.Model.{Name, Arg, Group, Subcommand, Form}
 use Rattle.form.specs.Actions.{allowed}
 use Rattle.form.specs.Settings.{arg_bit}
@@ -15,7 +15,7 @@ use Rattle.rules.specs.declared.rule.Rule.TheVariants.{PropagateWithoutVersion, 
 use Rattle.rules.specs.declared.breach.Breach.{Breach}
 use Rattle.rules.specs.Order.{Stands}
 use Rattle.rules.specs.Told.{argument, group, subcommand, of_form, of_one, of_bit, of_item, of_two, of_flags}
-use Rattle.rules.specs.Words.{Given, Has, Lacks, FormHas, FormLacks, least, most, Multiple, Positional, Dashed, ArgNamed, NoArg, Missing, Owner, owners, Flag, Differ, Called, Earlier, index_or_0, position_count, Highest, FirstAt, Ends, OpenBelow, Wide, WideAt, TwoWide}
+use Rattle.rules.specs.Words.{Given, Has, Lacks, FormHas, FormLacks, least, most, Multiple, Positional, Dashed, NoArg, Missing, Owner, owners, Flag, Differ, Called, Earlier, index_or_0, position_count, Highest, FirstAt, Ends, OpenBelow, Wide, WideAt, TwoWide}
 
 -- the settings that only an argument with values may have
 pub data OfValues : ArgSettings → Type 0 where

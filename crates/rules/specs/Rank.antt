@@ -1,6 +1,6 @@
 -- The order of a report, and what it is to list the breaches of a form.
 use Rattle.std.specs.Prelude.{ℕ, ◌+◌, ◌-◌, Bool, cond, ◌&&◌, List, [], ◌∷◌, length, Some, None, Option, ◌==◌, nat_le, slice_index_or}
-use Rattle.form.specs.Model.{Arg, Form, blank_arg}
+use Rattle.form.specs.Model.{Form, blank_arg}
 use Rattle.form.specs.Lists.{list_number}
 use Rattle.form.specs.declared.lists.EntryKind.{EntryKind}
 use Rattle.form.specs.declared.lists.EntryKind.TheVariants.{Argument, Group, Subcommand}

@@ -1,5 +1,5 @@
 -- The report, to be computed: what each row tells, in order.
-use Rattle.std.specs.Prelude.{ℕ, zero, suc, Bool, cond, not, ◌&&◌, List, [], ◌∷◌, ◌++◌, length, take, drop, Some, None, Option, nat_eq}
+use Rattle.std.specs.Prelude.{ℕ, zero, suc, Bool, not, ◌&&◌, List, [], ◌∷◌, take, drop, Some, None, Option, nat_eq}
 use Rattle.std.specs.List.{range_with_len}
 use Rattle.std.specs.Str.{bytes_eq}
 use Rattle.form.specs.Model.{Name, Arg, Group, Subcommand, Form}

@@ -1,5 +1,5 @@
 -- What a breach tells: its rule, the entries that it concerns, the list, and an item number for each entry.
-use Rattle.std.specs.Prelude.{ℕ, Some, None, Option}
+use Rattle.std.specs.Prelude.{ℕ, Some, None}
 use Rattle.form.specs.declared.lists.EntryKind.TheVariants as kind
 use Rattle.form.specs.declared.lists.ItemList.{ItemList}
 use Rattle.rules.specs.declared.rule.Rule.{Rule}

@@ -1,5 +1,5 @@
 -- The words in which the rules are said, as plain propositions.
-use Rattle.std.specs.Prelude.{◌≡◌, ℕ, suc, ◌+◌, ◌<◌, ◌≤◌, Bool, true, false, ◌⊎◌, List, [], ◌∷◌, ◌++◌, length, Some, None, Option, ◌≢◌}
+use Rattle.std.specs.Prelude.{◌≡◌, ℕ, suc, ◌<◌, ◌≤◌, true, false, ◌⊎◌, List, [], ◌∷◌, ◌++◌, length, Some, None, Option, ◌≢◌}
 use Rattle.form.specs.Model.{Name, Range, Arg, Group, Subcommand, Form}
 use Rattle.form.specs.Settings.{arg_set, app_set}
 use Rattle.form.specs.Keys.{listed}

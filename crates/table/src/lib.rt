@@ -1,5 +1,6 @@
 //! Keyed forms over constant tables in code: for definitions that a program keeps itself, and for tests and examples.
 #![tactic(auto)]
+
 mod items;
 mod rows;
 mod source;

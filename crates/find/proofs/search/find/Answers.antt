@@ -1,6 +1,6 @@
-use Rattle.std.proofs.Common.{◌≡◌, Some, None, Ok, Err, sym, ap, ◌∙◌, arith}
+use Rattle.std.proofs.Common.{sym, ap, ◌∙◌, arith}
 use Rattle.std.specs.Option.{ok_or}
-use Rattle.form.specs.Keys.{keys_of, first_key}
+use Rattle.form.specs.Keys.{keys_of}
 use Rattle.form.specs.declared.refusal.Refusal.TheVariants.{NoSuchKey}
 use Rattle.find.proofs.Firsts.{first_yes, first_no, first_none, first_all, found_as}
 use Rattle.find.proofs.search.find.Goals as goal

@@ -1,7 +1,7 @@
-use Rattle.std.proofs.Common.{◌≡◌, ◌-◌, length, get_or, Some, None, sym, ap, ◌∙◌, arith}
+use Rattle.std.proofs.Common.{◌-◌, length, get_or, Some, sym, ap, ◌∙◌, arith}
 use Rattle.form.specs.Model.{blank_arg}
 use Rattle.form.specs.Keys.{letter, long}
-use Rattle.keys.specs.KeysAt.{own_names, names_at_place}
+use Rattle.keys.specs.KeysAt.{own_names}
 use Rattle.keys.proofs.ArgKeys.{past_none, letter_alias_at, long_alias_at}
 use Rattle.keys.proofs.walk.arg_key.Goals as goal
 

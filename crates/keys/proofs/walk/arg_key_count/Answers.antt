@@ -1,6 +1,6 @@
-use Rattle.std.proofs.Common.{◌≡◌, length, get_or, None, ap, ◌∙◌, arith}
+use Rattle.std.proofs.Common.{length, get_or, ap, arith}
 use Rattle.form.specs.Model.{blank_arg}
-use Rattle.keys.specs.KeysAt.{own_names, names_at_place}
+use Rattle.keys.specs.KeysAt.{own_names}
 use Rattle.keys.proofs.ArgKeys.{names_total, no_index, place_few}
 use Rattle.keys.proofs.walk.arg_key_count.Goals as goal
 

@@ -1,4 +1,4 @@
-use Rattle.std.proofs.Common.{◌≡◌, length, ap, ◌∙◌, arith}
+use Rattle.std.proofs.Common.{length, ap, arith}
 use Rattle.keys.proofs.KeyLists.{form_keys_few}
 use Rattle.keys.proofs.ArgKeys.{count_more, keys_past}
 use Rattle.keys.proofs.walk.count_keys.Goals as goal

@@ -1,4 +1,4 @@
-use Rattle.std.proofs.Common.{◌≡◌, length, drop}
+use Rattle.std.proofs.Common.{◌≡◌, drop}
 use Rattle.std.specs.List.{slice_get}
 use Rattle.form.specs.Keys.{keys_from, keys_of}
 use Rattle.keys.proofs.walk.key_at.Given as goal

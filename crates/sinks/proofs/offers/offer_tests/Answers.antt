@@ -1,7 +1,6 @@
-use Rattle.std.proofs.Common.{◌≡◌, ℕ, ◌+◌, ◌<◌, ◌≤◌, Bool, false, not, sym, refl, ap, ◌∙◌, arith}
+use Rattle.std.proofs.Common.{not, sym, ap, arith}
 use Rattle.rules.specs.Order.{when}
 use Rattle.rules.specs.Told.{of_one}
-use Rattle.rules.specs.declared.rule.Rule.{Rule}
 use Rattle.sinks.proofs.Walks.{walk_step, walk_end, walk_stop, stopped}
 use Rattle.sinks.proofs.offers.offer_tests.Goals as goal
 

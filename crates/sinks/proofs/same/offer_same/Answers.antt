@@ -1,9 +1,7 @@
-use Rattle.std.proofs.Common.{◌≡◌, ℕ, ◌+◌, ◌<◌, ◌≤◌, true, false, not, List, [], ◌∷◌, length, drop, Some, None, Option, sym, refl, ap, ◌∙◌, subst, arith}
+use Rattle.std.proofs.Common.{◌≡◌, ℕ, ◌<◌, ◌≤◌, not, [], length, drop, Some, None, Option, sym, ap, ◌∙◌, arith}
 use Rattle.std.specs.List.{range_with_len}
 use Rattle.std.proofs.lemmas.List.FromFn.{length-range_with_len}
 use Rattle.rules.specs.Order.{when, blocks}
-use Rattle.rules.specs.declared.breach.Breach.{Breach}
-use Rattle.sinks.specs.Alike.{between}
 use Rattle.sinks.proofs.Walks.{walk_step, walk_end, walk_stop, blocks_none, when_yes, when_no, stopped}
 use Rattle.sinks.proofs.same.offer_same.Goals as goal
 use Rattle.sinks.proofs.same.offer_same.Goals.{else-is_same-via-then-is_same+else-not-offer, else-is_same-via-else-is_same}

@@ -1,4 +1,4 @@
-use Rattle.std.proofs.Common.{◌≡◌, take, sym, refl, ap, ◌∙◌, arith}
+use Rattle.std.proofs.Common.{take, sym, refl, ap, ◌∙◌, arith}
 use Rattle.std.proofs.lemmas.List.{take_all}
 use Rattle.form.specs.Limits.{summed}
 use Rattle.table.specs.Capped.{capped}

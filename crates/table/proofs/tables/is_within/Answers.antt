@@ -1,4 +1,4 @@
-use Rattle.std.proofs.Common.{◌≡◌, ◌+◌, ◌&&◌, leb, length, sym, ◌∙◌}
+use Rattle.std.proofs.Common.{length, sym, ◌∙◌}
 use Rattle.form.specs.Limits.{arg_items, group_items, subcommand_items, summed}
 use Rattle.table.specs.Entries.{arg_of, group_of, subcommand_of}
 use Rattle.table.proofs.Caps.{within_rows, too_long, items_decide, items_counted}

@@ -1,4 +1,4 @@
-use Rattle.std.proofs.Common.{◌≡◌, ◌-◌, min, length, ap, ◌∙◌}
+use Rattle.std.proofs.Common.{◌-◌, min, length, ap, ◌∙◌}
 use Rattle.layers.specs.Flags.{wanted}
 use Rattle.layers.proofs.Places.{fitting_count}
 use Rattle.layers.proofs.standard_flags.StandardFlags.flag_count.Goals as goal

@@ -1,4 +1,4 @@
-use Rattle.std.proofs.Common.{◌≡◌, ◌-◌, sym, ap, ◌∙◌, arith}
+use Rattle.std.proofs.Common.{◌-◌, ap, ◌∙◌, arith}
 use Rattle.layers.specs.Named.{flag_arg}
 use Rattle.form.specs.Shown.{arg_record}
 use Rattle.layers.proofs.Places.{own_arg, flag_arg_at, no_arg_at}

@@ -1,4 +1,4 @@
-use Rattle.std.proofs.Common.{◌≡◌, ap, ◌∙◌, arith}
+use Rattle.std.proofs.Common.{arith}
 use Rattle.layers.proofs.Places.{flags_arg_count, fitting_few}
 use Rattle.layers.proofs.standard_flags.StandardFlagsFormSource.arg_count.Goals as goal
 

@@ -1,4 +1,4 @@
-use Rattle.std.proofs.Common.{[], length, get_or, ap, ◌∙◌}
+use Rattle.std.proofs.Common.{length, ap, ◌∙◌}
 use Rattle.layers.proofs.Places.{letters_kept}
 use Rattle.layers.proofs.standard_flags.StandardFlagsFormSource.letter_count.Goals as goal
 

@@ -1,4 +1,4 @@
-use Rattle.std.proofs.Common.{◌≡◌, ◌+◌, ◌-◌, ◌/◌, length, Some, sym, ap, ◌∙◌, arith}
+use Rattle.std.proofs.Common.{◌+◌, ◌-◌, ◌/◌, length, Some, ap, ◌∙◌, arith}
 use Rattle.form.specs.Shown.{key_name}
 use Rattle.layers.proofs.FlagKeys.{own_key, flag_letter_key, flag_long_key, no_flag_key}
 use Rattle.layers.proofs.standard_flags.StandardFlagsKeyed.key.Goals as goal

@@ -1,4 +1,4 @@
-use Rattle.std.proofs.Common.{◌≡◌, ap, ◌∙◌, arith}
+use Rattle.std.proofs.Common.{arith}
 use Rattle.keys.proofs.KeyLists.{form_keys_few}
 use Rattle.layers.proofs.Places.{fitting_few}
 use Rattle.layers.proofs.FlagKeys.{flags_key_count}

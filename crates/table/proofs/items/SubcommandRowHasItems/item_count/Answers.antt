@@ -1,4 +1,4 @@
-use Rattle.std.proofs.Common.{◌≡◌, ◌+◌, length, ap, ◌∙◌}
+use Rattle.std.proofs.Common.{◌+◌, length, ap, ◌∙◌}
 use Rattle.table.specs.Capped.{capped}
 use Rattle.table.proofs.Caps.{capped_more, subcommand_total}
 use Rattle.table.proofs.items.SubcommandRowHasItems.item_count.Goals as goal

@@ -1,4 +1,4 @@
-use Rattle.std.proofs.Common.{ap, ◌∙◌, arith}
+use Rattle.std.proofs.Common.{ap, arith}
 use Rattle.form.specs.Model.{blank_group}
 use Rattle.table.specs.Entries.{group_of}
 use Rattle.table.proofs.Shows.{at_row, past_rows}
