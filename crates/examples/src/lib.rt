@@ -1,5 +1,6 @@
 //! Examples that are proved, and examples that are run.
 #![tactic(auto)]
+
 mod forms;
 mod layered;
 mod small;

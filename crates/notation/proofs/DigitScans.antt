@@ -1,5 +1,5 @@
 -- One step of reading digits of a base.
-use Rattle.std.proofs.Common.{◌≡◌, ℕ, zero, suc, ◌+◌, ◌-◌, ◌<◌, ◌≤◌, Bool, true, false, cond, ◌&&◌, eqb, ◌⊎◌, List, [], ◌∷◌, length, get_or, take, drop, Some, None, Option, sym, refl, ap, ◌∙◌, inl, inr, add-one, arith, drop-cons, eq-eqb, ne_eqb}
+use Rattle.std.proofs.Common.{◌≡◌, ℕ, ◌+◌, ◌-◌, ◌<◌, ◌≤◌, List, length, get_or, take, drop, Some, None, Option, refl, ap, ◌∙◌, add-one, drop-cons, eq-eqb}
 use Rattle.std.proofs.lemmas.List.{drop_all, take_rest}
 use Rattle.notation.specs.Digits.{more_digits_in, digits_from, number_in, count_written}
 

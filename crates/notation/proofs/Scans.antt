@@ -1,10 +1,10 @@
 -- One step of each scan: a digit more, a place further.
-use Rattle.std.proofs.Common.{◌≡◌, ℕ, zero, suc, ◌+◌, ◌-◌, ◌<◌, ◌≤◌, Bool, true, false, cond, ◌&&◌, eqb, ◌⊎◌, List, [], ◌∷◌, length, get_or, drop, Some, None, Option, sym, refl, ap, ◌∙◌, inl, inr, add-one, arith, drop-cons, eq-eqb, ne_eqb}
+use Rattle.std.proofs.Common.{◌≡◌, ℕ, zero, suc, ◌+◌, ◌<◌, ◌≤◌, List, [], ◌∷◌, length, get_or, drop, Some, None, Option, refl, ap, ◌∙◌, inl, inr, add-one, arith, drop-cons, eq-eqb, ne_eqb}
 use lib.Seq.{drop-nil}
 use Rattle.std.proofs.lemmas.List.{drop_all}
 use Rattle.std.proofs.lemmas.Bool.{cases_eq}
 use Rattle.notation.specs.Numbers.{more_digits, number_from, number}
-use Rattle.notation.specs.RangeTexts.{dots_from, dots}
+use Rattle.notation.specs.RangeTexts.{dots_from}
 
 pub number_some : (s : List ℕ) → (length s ≡ 0 → ⊥) → number_from (Some 0) s ≡ number s
 number_some [] h = absurd (h refl)

@@ -1,5 +1,5 @@
 -- A text with two dots, and what stands behind them.
-use Rattle.std.proofs.Common.{◌≡◌, ℕ, ◌+◌, ◌-◌, ◌≤◌, List, [], ◌∷◌, length, get_or, take, drop, Some, None, Option, sym, refl, ap, ◌∙◌, arith, length-drop, take_all, eq-eqb}
+use Rattle.std.proofs.Common.{◌≡◌, ℕ, ◌+◌, ◌-◌, ◌≤◌, List, [], ◌∷◌, length, get_or, take, drop, Some, Option, sym, ap, ◌∙◌, arith, length-drop, take_all, eq-eqb}
 use Rattle.notation.specs.Numbers.{number}
 use Rattle.notation.specs.RangeTexts.{End, through_end, number_end, end_of, start_of, both, dots, split_at, range_written}
 

@@ -1,5 +1,5 @@
 -- Numbers in the digits of a base.
-use Rattle.std.specs.Prelude.{ℕ, ◌+◌, ◌-◌, ◌*◌, ◌^◌, Bool, cond, ◌&&◌, List, [], ◌∷◌, drop, Some, None, Option, ◌==◌, nat_le, nat_lt, slice_index}
+use Rattle.std.specs.Prelude.{ℕ, ◌+◌, ◌-◌, ◌*◌, cond, ◌&&◌, List, [], ◌∷◌, drop, Some, None, Option, ◌==◌, nat_le, nat_lt, slice_index}
 
 -- what a digit is worth: 0 to 9, then a to f or A to F for 10 to 15; any other byte has 16, which is a digit of no base up to 16
 abbrev pub digit_value : ℕ → ℕ

@@ -1,5 +1,5 @@
 -- Ranges as Rust writes them.
-use Rattle.std.specs.Prelude.{ℕ, suc, ◌+◌, Bool, cond, ◌&&◌, List, [], ◌∷◌, take, drop, Some, None, Ok, Err, Option, Result, ◌==◌}
+use Rattle.std.specs.Prelude.{ℕ, suc, ◌+◌, cond, ◌&&◌, List, [], ◌∷◌, take, drop, Some, None, Ok, Option, Result, ◌==◌}
 use Rattle.form.specs.Model.{Range}
 use Rattle.form.specs.Ranges.{fixed, through, to_before, from_on, up_to_before, up_to, all}
 use Rattle.form.specs.declared.refusal.RangeFault.{RangeFault}

@@ -1,5 +1,6 @@
 //! How people write the small values: lines, ranges and numbers, as text.
 #![tactic(auto)]
+
 mod digits;
 mod lines;
 mod number;
@@ -7,8 +8,8 @@ mod range_text;
 mod small;
 mod words;
 
-pub use lines::split_line;
 pub use digits::{digit_value, read_count, read_digits};
+pub use lines::split_line;
 pub use number::read_number;
 pub use range_text::read_range;
 pub use small::{read_letter, read_u8, read_u16};

@@ -1,8 +1,8 @@
 -- A form within its limits has fewer than 2^64 breaches, so that they can be counted.
-use Rattle.std.proofs.Common.{◌≡◌, ℕ, zero, suc, ◌+◌, ◌-◌, ◌*◌, ◌^◌, ◌<◌, ◌≤◌, Bool, true, false, cond, ◌&&◌, eqb, leb, List, [], ◌∷◌, ◌++◌, map, length, take, drop, Some, None, Option, refl, ap, suc-mul, arith, length-append, length-drop, length-take}
+use Rattle.std.proofs.Common.{◌≡◌, ℕ, zero, suc, ◌*◌, ◌^◌, ◌<◌, ◌≤◌, Bool, true, false, cond, eqb, leb, List, [], ◌∷◌, ◌++◌, map, length, take, drop, Some, None, Option, refl, ap, suc-mul, arith, length-append, length-drop, length-take}
 use Rattle.std.proofs.lemmas.Nat.{mul-le}
 use Rattle.std.proofs.lemmas.List.{length-map}
-use Rattle.std.proofs.lemmas.Bool.{and_parts, leb-true}
+use Rattle.std.proofs.lemmas.Bool.{leb-true}
 use Rattle.std.specs.List.{range_with_len}
 use Rattle.std.specs.Str.{bytes_eq}
 use Rattle.form.specs.Model.{Name, Arg, Group, Subcommand, Form}
@@ -14,8 +14,8 @@ use Rattle.rules.specs.declared.breach.Breach.{Breach}
 use Rattle.rules.specs.Order.{each, blocks, when}
 use Rattle.rules.proofs.TidyPlaces.{length_each}
 use Rattle.rules.specs.Words.{Owner, owners, of_subcommand, of_argument, indices, position_count}
-use Rattle.rules.specs.Rows.{ItemRow, own_item, missing_item, ArgRow, own, own_conflict, own_bit, later, items, whole, GroupRow, later_group, with_argument, missing_name, Section, of_the_form, by_argument, by_subcommand, by_group, by_long_flag, by_letter_flag, by_subcommand_name, at_ends, by_position, reference_lists, group_rows, arg_rows, trailing_rows, sections, flags, both_ends, ends_at, ends, first_at, highest, multiple_elsewhere, open_before_optional, multiple_low, too_many_wide}
-use Rattle.rules.specs.Report.{item_report, arg_report, group_report, flags_report, long_flags, letter_flags, called, names_report, taken_report, down, position_report, section_report, breaches}
+use Rattle.rules.specs.Rows.{ItemRow, own_item, missing_item, ArgRow, own, own_conflict, own_bit, later, items, whole, GroupRow, later_group, with_argument, missing_name, by_argument, by_group, at_ends, by_position, reference_lists, group_rows, arg_rows, trailing_rows, sections, flags, both_ends, ends_at, ends, first_at, highest, multiple_elsewhere, open_before_optional, multiple_low, too_many_wide}
+use Rattle.rules.specs.Report.{item_report, arg_report, group_report, flags_report, long_flags, letter_flags, called, names_report, down, position_report, section_report, breaches}
 
 -- P holds of every element
 abbrev All : {X : Type 0} → (X → Type 0) → List X → Type 0

@@ -1,5 +1,5 @@
 -- The indices of a table of arguments, counted from the front.
-use Rattle.std.proofs.Common.{◌≡◌, ℕ, ◌+◌, ◌<◌, ◌≤◌, max, List, [], ◌∷◌, ◌++◌, length, get_or, drop, Some, None, Option, sym, refl, ap, ◌∙◌, zero-add, add-one, arith, drop-cons}
+use Rattle.std.proofs.Common.{◌≡◌, ℕ, ◌+◌, ◌<◌, ◌≤◌, max, List, [], ◌∷◌, length, get_or, drop, Some, None, sym, ap, ◌∙◌, zero-add, add-one, arith, drop-cons}
 use native.Mathlib.Nat.{max-zero, max_comm}
 use Rattle.std.proofs.lemmas.List.{drop_all}
 use Rattle.form.specs.Model.{Arg, blank_arg}

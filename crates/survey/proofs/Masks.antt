@@ -1,5 +1,5 @@
 -- The bits of a number, told lowest first, and one told at a time.
-use Rattle.std.proofs.Common.{◌≡◌, ℕ, zero, suc, ◌+◌, ◌-◌, ◌*◌, ◌/◌, ◌%◌, ◌^◌, ◌<◌, ◌≤◌, Bool, true, false, eqb, List, [], ◌∷◌, ◌++◌, sym, refl, ap, ◌∙◌, subst, add-zero, add-suc, mod-lt, suc-add, pow-suc, zero-add, div-one, add-one, arith, lit<, lit≤}
+use Rattle.std.proofs.Common.{◌≡◌, ℕ, zero, suc, ◌+◌, ◌-◌, ◌/◌, ◌%◌, ◌^◌, ◌<◌, ◌≤◌, eqb, List, [], ◌∷◌, ◌++◌, sym, refl, ap, ◌∙◌, add-zero, add-suc, mod-lt, suc-add, pow-suc, zero-add, div-one, add-one, arith, lit<, lit≤}
 use lib.Count.{ones, ones_in, ones_step, count_trailing_zeros, under}
 use Rattle.std.specs.List.{range_with_len}
 use Rattle.std.proofs.lemmas.Nat.{shr-shr}

@@ -1,5 +1,5 @@
 -- The pair search over a table, and the rows of a report on later entries.
-use Rattle.std.proofs.Common.{◌≡◌, ℕ, suc, ◌+◌, Bool, List, length, sym, refl, ap, ◌∙◌, subst, add-one}
+use Rattle.std.proofs.Common.{◌≡◌, ℕ, suc, ◌+◌, Bool, List, length, subst, add-one}
 use Rattle.form.specs.Model.{Arg, Group, Form, blank_arg, blank_group}
 use Rattle.rules.specs.declared.rule.Rule.{Rule}
 use Rattle.rules.specs.declared.breach.Entry.{Entry}

@@ -1,8 +1,8 @@
 -- Names of subcommands that earlier ones take.
-use Rattle.std.proofs.Common.{◌≡◌, ℕ, suc, ◌<◌, ◌≤◌, Bool, true, false, cond, ◌&&◌, List, [], ◌∷◌, length, get_or, take, Some, None, sym, refl, ap, ◌∙◌, arith}
+use Rattle.std.proofs.Common.{◌≡◌, ℕ, suc, ◌<◌, ◌≤◌, Bool, true, false, cond, ◌&&◌, [], length, get_or, take, Some, None, refl, arith}
 use Rattle.std.specs.Str.{bytes_eq}
 use Rattle.std.proofs.lemmas.List.{length-take-le, get_or-take}
-use Rattle.form.specs.Model.{Name, Subcommand, Form, blank_subcommand}
+use Rattle.form.specs.Model.{Name, Form, blank_subcommand}
 use Rattle.form.specs.Limits.{Fits, subcommand_items}
 use Rattle.rules.specs.Order.{when}
 use Rattle.rules.specs.Told.{subcommand, of_flags}

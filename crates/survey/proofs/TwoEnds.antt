@@ -1,5 +1,5 @@
 -- What the two ends of the positions tell.
-use Rattle.std.proofs.Common.{◌≡◌, ℕ, Bool, List, [], ◌∷◌, ◌++◌, sym, refl, ap, ◌∙◌, append-nil}
+use Rattle.std.proofs.Common.{◌≡◌, ℕ, Bool, List, [], ◌∷◌, ap, ◌∙◌, append-nil}
 use Rattle.form.specs.Model.{Arg, Form}
 use Rattle.form.specs.Shown.{ArgRecord, arg_record}
 use Rattle.rules.specs.declared.rule.Rule.{Rule}

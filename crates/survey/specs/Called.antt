@@ -1,5 +1,5 @@
 -- The names of subcommands, and what they tell of earlier ones.
-use Rattle.std.specs.Prelude.{ℕ, suc, Bool, cond, List, [], take, Some, None, Option, slice_index_or}
+use Rattle.std.specs.Prelude.{ℕ, suc, cond, List, [], take, Some, None, Option, slice_index_or}
 use Rattle.form.specs.Model.{Name, Subcommand, Form, blank_subcommand}
 use Rattle.rules.specs.declared.breach.Breach.{Breach}
 use Rattle.rules.specs.Order.{blocks}

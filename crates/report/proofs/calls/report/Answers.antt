@@ -1,4 +1,4 @@
-use Rattle.std.proofs.Common.{◌≡◌, ℕ, sym, ◌∙◌, arith}
+use Rattle.std.proofs.Common.{◌≡◌, ℕ, ◌∙◌, arith}
 use Rattle.report.proofs.Reported.{count_is, short_answer, short_list, long_answer, long_list, long_lists, long_tidy}
 use Rattle.report.proofs.Few.{few}
 use Rattle.report.proofs.calls.report.Goals as goal

@@ -1,4 +1,4 @@
-use Rattle.std.proofs.Common.{◌≡◌, ◌∙◌, arith, rules}
+use Rattle.std.proofs.Common.{◌∙◌, arith}
 use Rattle.report.proofs.Reported.{count_is, all_is, all_lists}
 use Rattle.report.proofs.Few.{few}
 use Rattle.report.proofs.calls.report_all.Goals as goal

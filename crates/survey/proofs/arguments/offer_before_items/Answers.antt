@@ -1,4 +1,4 @@
-use Rattle.std.proofs.Common.{◌≡◌, not, sym, refl, ap, ◌∙◌}
+use Rattle.std.proofs.Common.{not, sym, ap}
 use Rattle.rules.specs.Rows.{own_conflict, own_bit, names_itself, setting_without_value}
 use Rattle.rules.specs.declared.rule.Rule.TheVariants.{ConflictsWithItself, SettingWithoutValue}
 use Rattle.survey.proofs.Tables.{row_alone, before_told}

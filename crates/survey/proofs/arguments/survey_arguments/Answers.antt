@@ -1,12 +1,11 @@
-use Rattle.std.proofs.Common.{◌≡◌, ℕ, ◌+◌, ◌<◌, ◌≤◌, true, not, List, [], length, get_or, sym, refl, ap, ◌∙◌, arith}
+use Rattle.std.proofs.Common.{◌≡◌, ℕ, ◌<◌, true, not, [], length, get_or, ap, arith}
 use Rattle.form.specs.Lists.{names_at}
-use Rattle.form.specs.Model.{Name, Arg, blank_arg}
+use Rattle.form.specs.Model.{Arg, blank_arg}
 use Rattle.form.specs.declared.lists.ItemList.{ItemList}
 use Rattle.form.specs.declared.lists.ItemList.TheVariants.{Requires}
 use Rattle.rules.specs.Order.{blocks}
 use Rattle.rules.specs.Report.{arg_report}
 use Rattle.rules.specs.Rows.{arg_of, arg_rows}
-use Rattle.rules.specs.declared.breach.Breach.{Breach}
 use Rattle.survey.specs.Parts.{rows_told, references, list_told, item_told}
 use Rattle.survey.proofs.Tables.{all_told}
 use Rattle.sinks.proofs.Walks.{walk_step, walk_end, walk_stop, stopped}

@@ -1,4 +1,4 @@
-use Rattle.std.proofs.Common.{◌≡◌, ℕ, not, sym, refl, ap, ◌∙◌, subst, arith}
+use Rattle.std.proofs.Common.{ℕ, not, sym, ap, subst, arith}
 use Rattle.form.specs.Model.{Arg, blank_arg}
 use Rattle.form.specs.Shown.{arg_record}
 use Rattle.rules.specs.Told.{argument}

@@ -1,4 +1,4 @@
-use Rattle.std.proofs.Common.{◌≡◌, not, sym, refl, ap}
+use Rattle.std.proofs.Common.{not, sym, refl, ap}
 use Rattle.rules.specs.declared.rule.Rule.TheVariants.{OpenBeforeOptional, MultipleElsewhere, TooManyMultiple}
 use Rattle.rules.specs.Rows.{open_before_optional, multiple_low, too_many_wide}
 use Rattle.sinks.proofs.Walks.{then_stop, stopped}

@@ -1,4 +1,4 @@
-use Rattle.std.proofs.Common.{◌≡◌, ℕ, ◌<◌, length, get_or, sym, ap, ◌∙◌, arith}
+use Rattle.std.proofs.Common.{◌≡◌, get_or, sym, ap, ◌∙◌, arith}
 use Rattle.form.specs.Model.{blank_arg}
 use Rattle.survey.specs.Ends.{is_open_below}
 use Rattle.looks.specs.Records.{bare}

@@ -1,4 +1,4 @@
-use Rattle.std.proofs.Common.{◌≡◌, suc, ◌-◌, Some, None, ap, ◌∙◌, arith}
+use Rattle.std.proofs.Common.{◌-◌, Some, ap, ◌∙◌, arith}
 use Rattle.survey.specs.FlagOwners.{owner_in}
 use Rattle.survey.proofs.Clashes.{same_mapped, same_absent, flag_alias, flag_past}
 use Rattle.survey.proofs.flag_kinds.flag.Goals as goal

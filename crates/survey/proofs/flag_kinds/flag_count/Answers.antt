@@ -1,4 +1,4 @@
-use Rattle.std.proofs.Common.{suc, sym, ap, ◌∙◌, arith}
+use Rattle.std.proofs.Common.{arith}
 use lib.ListN.{length-map}
 use Rattle.survey.proofs.flag_kinds.flag_count.Goals as goal
 

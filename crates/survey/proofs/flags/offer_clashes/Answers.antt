@@ -1,7 +1,7 @@
 use Rattle.std.proofs.Common.{◌≡◌, not, sym, ap, ◌∙◌, subst}
 use Rattle.std.specs.Option.{option_map}
 use Rattle.rules.specs.Rows.{differ}
-use Rattle.survey.specs.FlagOwners.{owner_in, flags_in, clash_told}
+use Rattle.survey.specs.FlagOwners.{owner_in, flags_in}
 use Rattle.survey.proofs.Clashes.{clash_none, clash_twins}
 use Rattle.survey.proofs.flags.offer_clashes.Goals as goal
 

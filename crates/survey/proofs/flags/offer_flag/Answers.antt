@@ -1,4 +1,4 @@
-use Rattle.std.proofs.Common.{◌≡◌, ℕ, ◌+◌, ◌<◌, ◌≤◌, not, length, get_or, sym, ap, ◌∙◌, subst, arith}
+use Rattle.std.proofs.Common.{◌≡◌, ◌+◌, ◌<◌, ◌≤◌, not, length, get_or, sym, ap, ◌∙◌, subst, arith}
 use Rattle.rules.specs.Words.{Owner, owners}
 use Rattle.survey.specs.FlagOwners.{owner_in, owner_numbered, flags_in, clash_told}
 use Rattle.survey.proofs.Owners.{few_owners, owners_at}

@@ -1,4 +1,4 @@
-use Rattle.std.proofs.Common.{◌≡◌, not, sym, refl, ap, ◌∙◌}
+use Rattle.std.proofs.Common.{not, sym, ap}
 use Rattle.rules.specs.Order.{blocks}
 use Rattle.sinks.proofs.Walks.{stopped}
 use Rattle.survey.proofs.groups.offer_group_rules.Goals as goal

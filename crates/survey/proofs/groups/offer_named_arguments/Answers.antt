@@ -1,4 +1,4 @@
-use Rattle.std.proofs.Common.{◌≡◌, refl, ap, ◌∙◌, arith}
+use Rattle.std.proofs.Common.{ap}
 use Rattle.std.specs.Str.{bytes_eq}
 use Rattle.rules.specs.Rows.{arg_of, id_of_argument}
 use Rattle.rules.specs.declared.rule.Rule.TheVariants.{GroupIdOfArgument}

@@ -1,4 +1,4 @@
-use Rattle.std.proofs.Common.{◌≡◌, refl, ap, ◌∙◌, arith}
+use Rattle.std.proofs.Common.{ap, arith}
 use Rattle.std.specs.Str.{bytes_eq}
 use Rattle.rules.specs.Rows.{same_group_id}
 use Rattle.rules.specs.declared.rule.Rule.TheVariants.{SameGroupId}

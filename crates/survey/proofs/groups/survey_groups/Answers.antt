@@ -1,4 +1,4 @@
-use Rattle.std.proofs.Common.{◌≡◌, ℕ, not, sym, refl, ap, ◌∙◌, arith}
+use Rattle.std.proofs.Common.{ℕ, not, sym, ap, arith}
 use Rattle.form.specs.Model.{Group, blank_group}
 use Rattle.rules.specs.Order.{blocks}
 use Rattle.rules.specs.Report.{group_report}

@@ -1,4 +1,4 @@
-use Rattle.std.proofs.Common.{◌≡◌, sym, refl, ap, ◌∙◌, arith}
+use Rattle.std.proofs.Common.{sym, ap, ◌∙◌, arith}
 use Rattle.survey.proofs.Counts.{counted_skip, counted_more, counted_all}
 use Rattle.survey.proofs.indices.count_positions.Goals as goal
 use Rattle.survey.proofs.indices.count_positions.Goals.{in-Some, in_default}

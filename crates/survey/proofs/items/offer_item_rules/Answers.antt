@@ -1,7 +1,7 @@
-use Rattle.std.proofs.Common.{◌≡◌, Bool, not, List, [], ◌∷◌, get_or, sym, refl, ap, ◌∙◌, subst}
+use Rattle.std.proofs.Common.{not, [], get_or, sym, ap, ◌∙◌}
 use Rattle.std.specs.Str.{bytes_eq}
 use Rattle.form.specs.Lists.{names_at}
-use Rattle.rules.specs.Order.{blocks, when, some}
+use Rattle.rules.specs.Order.{blocks, some}
 use Rattle.rules.specs.Told.{of_item}
 use Rattle.rules.specs.Rows.{ids, requires_itself, required_conditionally}
 use Rattle.rules.specs.declared.rule.Rule.TheVariants.{RequiresItself, RequiredConditionally, MissingReference}

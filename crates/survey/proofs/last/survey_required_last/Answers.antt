@@ -1,4 +1,4 @@
-use Rattle.std.proofs.Common.{◌≡◌, ◌&&◌, [], ◌∷◌, refl, ap, ◌∙◌}
+use Rattle.std.proofs.Common.{◌&&◌, [], ◌∷◌, refl, ap}
 use Rattle.form.specs.Settings.{arg_set}
 use Rattle.form.specs.declared.arg_settings.ArgSettings.TheVariants.{Required}
 use Rattle.rules.specs.Rows.{whole, positional_last, required_last}

@@ -1,4 +1,4 @@
-use Rattle.std.proofs.Common.{◌≡◌, ℕ, ◌+◌, Bool, true, false, cond, not, ◌&&◌, [], ◌∷◌, Some, None, Option, sym, refl, ap, ◌∙◌, arith}
+use Rattle.std.proofs.Common.{◌≡◌, ℕ, Bool, true, false, cond, not, ◌&&◌, [], ◌∷◌, Some, None, sym, refl, ap, ◌∙◌, arith}
 use Rattle.form.specs.Model.{Arg, blank_arg}
 use Rattle.rules.specs.Order.{blocks}
 use Rattle.rules.specs.Report.{arg_report}

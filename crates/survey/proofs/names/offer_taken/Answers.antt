@@ -1,4 +1,4 @@
-use Rattle.std.proofs.Common.{◌≡◌, subst}
+use Rattle.std.proofs.Common.{subst}
 use Rattle.survey.proofs.TakenNames.{taken_twins}
 use Rattle.survey.proofs.names.offer_taken.Goals as goal
 

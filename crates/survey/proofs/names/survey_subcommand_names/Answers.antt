@@ -1,4 +1,4 @@
-use Rattle.std.proofs.Common.{◌≡◌, ℕ, suc, ◌<◌, ◌≤◌, not, length, take, sym, ap, arith}
+use Rattle.std.proofs.Common.{ℕ, suc, ◌<◌, ◌≤◌, not, length, take, sym, ap, arith}
 use Rattle.form.specs.Model.{Subcommand, blank_subcommand}
 use Rattle.rules.specs.Order.{blocks}
 use Rattle.rules.specs.Report.{called, taken_report}

@@ -1,4 +1,4 @@
-use Rattle.std.proofs.Common.{◌≡◌, refl, ap, ◌∙◌}
+use Rattle.std.proofs.Common.{refl, ap, ◌∙◌}
 use Rattle.rules.specs.Rows.{last_with_long, last_with_letter, required_global}
 use Rattle.survey.specs.Parts.{after_rows}
 use Rattle.looks.specs.Records.{bare}

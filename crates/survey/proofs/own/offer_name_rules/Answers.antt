@@ -1,4 +1,4 @@
-use Rattle.std.proofs.Common.{◌≡◌, refl, ap, ◌∙◌}
+use Rattle.std.proofs.Common.{refl, ap, ◌∙◌}
 use Rattle.form.specs.Settings.{app_set}
 use Rattle.form.specs.declared.app_settings.AppSettings.TheVariants.{Multicall}
 use Rattle.rules.specs.Rows.{dashed}

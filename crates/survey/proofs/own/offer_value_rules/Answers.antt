@@ -1,4 +1,4 @@
-use Rattle.std.proofs.Common.{◌≡◌, refl, ap, ◌∙◌}
+use Rattle.std.proofs.Common.{refl, ap, ◌∙◌}
 use Rattle.rules.specs.Rows.{too_many_values, index_with_flag, index_zero, index_without_value, positional_without_index, range_unset, equals_with_many}
 use Rattle.survey.specs.Parts.{value_rows}
 use Rattle.looks.specs.Records.{bare}

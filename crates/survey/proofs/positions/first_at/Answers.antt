@@ -1,4 +1,4 @@
-use Rattle.std.proofs.Common.{◌≡◌, ℕ, ◌+◌, ◌<◌, ◌≤◌, Bool, true, false, length, get_or, sym, ap, ◌∙◌, arith}
+use Rattle.std.proofs.Common.{◌≡◌, ◌<◌, length, get_or, sym, ap, ◌∙◌, arith}
 use Rattle.form.specs.Model.{blank_arg}
 use Rattle.rules.specs.Rows.{is_number}
 use Rattle.survey.proofs.Searches.{first_at_yes, first_at_no, first_at_all}

@@ -1,7 +1,6 @@
-use Rattle.std.proofs.Common.{◌≡◌, ℕ, suc, ◌-◌, Bool, true, false, not, ◌&&◌, sym, refl, ap, ◌∙◌, arith}
+use Rattle.std.proofs.Common.{◌≡◌, suc, ◌-◌, not, ◌&&◌, sym, ap, ◌∙◌, arith}
 use Rattle.form.specs.Settings.{arg_set}
 use Rattle.form.specs.declared.arg_settings.ArgSettings.TheVariants.{Required}
-use Rattle.rules.specs.Order.{when}
 use Rattle.rules.specs.Rows.{arg_of}
 use Rattle.rules.specs.Told.{of_one}
 use Rattle.rules.specs.declared.rule.Rule.TheVariants.{OptionalBeforeRequired}

@@ -1,4 +1,4 @@
-use Rattle.std.proofs.Common.{◌≡◌, ℕ, not, sym, refl, ap, ◌∙◌, arith}
+use Rattle.std.proofs.Common.{ℕ, not, sym, ap, ◌∙◌, arith}
 use Rattle.form.specs.Model.{Subcommand, blank_subcommand}
 use Rattle.rules.specs.Order.{when}
 use Rattle.rules.specs.Told.{subcommand, of_one}

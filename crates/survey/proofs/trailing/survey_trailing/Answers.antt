@@ -1,4 +1,4 @@
-use Rattle.std.proofs.Common.{◌≡◌, not, ◌&&◌, eqb, refl, ap, ◌∙◌}
+use Rattle.std.proofs.Common.{not, ◌&&◌, eqb, refl, ap}
 use Rattle.form.specs.Settings.{arg_set}
 use Rattle.form.specs.declared.arg_settings.ArgSettings.TheVariants.{TrailingVarArg, Last}
 use Rattle.rules.specs.Words.{index_or_0}

@@ -1,8 +1,6 @@
-use Rattle.std.proofs.Common.{◌≡◌, eqb, Some, refl, ap, ◌∙◌, arith}
-use Rattle.rules.specs.Rows.{same_if, arg_of, position, same_letter}
+use Rattle.std.proofs.Common.{eqb, ap, arith}
+use Rattle.rules.specs.Rows.{same_if, arg_of, same_letter}
 use Rattle.rules.specs.declared.rule.Rule.TheVariants.{SameLetter}
-use Rattle.std.specs.Str.{bytes_eq}
-use Rattle.looks.specs.Records.{bare}
 use Rattle.survey.proofs.Pairs.{later_by}
 use Rattle.survey.proofs.twins.offer_same_letters.Goals as goal
 

@@ -1,8 +1,7 @@
-use Rattle.std.proofs.Common.{◌≡◌, eqb, Some, refl, ap, ◌∙◌, arith}
-use Rattle.rules.specs.Rows.{same_if, arg_of, position, same_long_name}
+use Rattle.std.proofs.Common.{ap, arith}
+use Rattle.rules.specs.Rows.{same_if, arg_of, same_long_name}
 use Rattle.rules.specs.declared.rule.Rule.TheVariants.{SameLongName}
 use Rattle.std.specs.Str.{bytes_eq}
-use Rattle.looks.specs.Records.{bare}
 use Rattle.survey.proofs.Pairs.{later_by}
 use Rattle.survey.proofs.twins.offer_same_longs.Goals as goal
 

@@ -1,7 +1,6 @@
-use Rattle.std.proofs.Common.{◌≡◌, eqb, Some, refl, ap, ◌∙◌, arith}
+use Rattle.std.proofs.Common.{eqb, ap, ◌∙◌, arith}
 use Rattle.rules.specs.Rows.{same_if, arg_of, position, same_index}
 use Rattle.rules.specs.declared.rule.Rule.TheVariants.{SameIndex}
-use Rattle.std.specs.Str.{bytes_eq}
 use Rattle.looks.specs.Records.{bare}
 use Rattle.survey.proofs.Pairs.{later_by}
 use Rattle.survey.proofs.twins.offer_same_positions.Goals as goal

@@ -1,4 +1,4 @@
-use Rattle.std.proofs.Common.{◌≡◌, not, sym, refl, ap, ◌∙◌}
+use Rattle.std.proofs.Common.{not, sym, ap}
 use Rattle.rules.specs.Order.{blocks}
 use Rattle.sinks.proofs.Walks.{stopped}
 use Rattle.survey.proofs.twins.offer_twins.Goals as goal

@@ -1,10 +1,9 @@
-use Rattle.std.proofs.Common.{◌≡◌, ℕ, ◌+◌, ◌-◌, ◌^◌, ◌<◌, ◌≤◌, not, [], ◌∷◌, sym, refl, ap, ◌∙◌, arith, lit≤}
+use Rattle.std.proofs.Common.{◌≡◌, not, sym, ap, arith, lit≤}
 use lib.Count.{ones, count_trailing_zeros}
 use Rattle.std.proofs.lemmas.Nat.{one_shl}
 use Rattle.rules.specs.Told.{of_bit}
-use Rattle.rules.specs.declared.breach.Breach.{Breach}
 use Rattle.rules.specs.declared.rule.Rule.TheVariants.{SettingWithoutValue}
-use Rattle.survey.proofs.Masks.{bits_told, told_all, told_end, turn, turn_told}
+use Rattle.survey.proofs.Masks.{told_all, told_end, turn, turn_told}
 use Rattle.sinks.proofs.Walks.{stopped}
 use Rattle.survey.proofs.value_settings.offer_bits.Goals as goal
 

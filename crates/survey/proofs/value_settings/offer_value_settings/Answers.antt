@@ -1,9 +1,9 @@
-use Rattle.std.proofs.Common.{◌≡◌, ℕ, ◌<◌, true, false, not, ◌&&◌, eqb, List, [], sym, refl, ap, ◌∙◌, subst, arith}
+use Rattle.std.proofs.Common.{◌≡◌, ℕ, true, false, not, ◌&&◌, eqb, sym, ap, ◌∙◌, arith}
 use lib.Bits.{bit_and}
 use Rattle.std.specs.List.{range_with_len}
 use Rattle.std.proofs.lemmas.Nat.{and_le_r}
 use Rattle.form.specs.Settings.{bit}
-use Rattle.rules.specs.Order.{blocks, when}
+use Rattle.rules.specs.Order.{when}
 use Rattle.rules.specs.Told.{argument, of_bit}
 use Rattle.rules.specs.Words.{most}
 use Rattle.rules.specs.Rows.{arg_of}

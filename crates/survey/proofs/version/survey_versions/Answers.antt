@@ -1,4 +1,4 @@
-use Rattle.std.proofs.Common.{◌≡◌, not, ◌&&◌, [], ◌∷◌, refl, ap, ◌∙◌}
+use Rattle.std.proofs.Common.{not, ◌&&◌, [], ◌∷◌, refl, ap, ◌∙◌}
 use Rattle.form.specs.Settings.{app_set}
 use Rattle.form.specs.declared.app_settings.AppSettings.TheVariants.{HasVersion}
 use Rattle.rules.specs.Rows.{whole, is_version, version_without_version}
