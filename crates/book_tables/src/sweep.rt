@@ -31,7 +31,7 @@ impl Owned for ItemRow {
 
 /// Takes out what stands for the entry of the mark; the rest closes up.
 pub(crate) fn sweep<T: Owned + Drop>(table: &mut Vec<T>, mark: u16)
-    ensures items { table.new.items ≡ filter (λ x. not (whose x == mark)) table.old.items }
+    ensures items { table.new.items ≡ filter (λ x. not (T.Owned.whose x == mark)) table.old.items }
     ensures bound { vec_len table.new ≤ vec_len table.old }
     ensures capacity { vec_capacity table.new ≡ vec_capacity table.old }
 {

@@ -20,7 +20,20 @@ invariant_of-self c =
     let given = mark_given (leb 32 c.len.result) s.next c.in_ok-mark.mark c.in_ok-mark.ensures in
     let room = leb-false 32 c.len.result given.room in
     let top = ap (λ n. n + 1) given.is in
-    (omega arith, (omega arith, (omega arith, (omega arith, (omega arith, (omega arith, (omega arith, (omega arith, (omega arith, (rw top (climbing_higher 1 _ s.next s.args_order), (rw top (climbing_higher 1 _ s.next s.groups_order), (rw top (marks_push _ _ _ s.next c.push_reserved.ensures.items given.is s.subcommands_order), tt))))))))))))
+    record {
+      few_args = omega arith;
+      few_groups = omega arith;
+      few_subcommands = omega arith;
+      few_rows = omega arith;
+      args_room = omega arith;
+      groups_room = omega arith;
+      subcommands_room = omega arith;
+      rows_room = omega arith;
+      last = omega arith;
+      args_order = rw top (climbing_higher 1 _ s.next s.args_order);
+      groups_order = rw top (climbing_higher 1 _ s.next s.groups_order);
+      subcommands_order = rw top (marks_push _ _ _ s.next c.push_reserved.ensures.items given.is s.subcommands_order);
+    }
 
 pub returns : goal.returns
 unfolding tables_marked

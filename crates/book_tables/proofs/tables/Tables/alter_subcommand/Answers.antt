@@ -19,7 +19,20 @@ returns-in_err-of c =
 pub invariant_of-self : goal.invariant_of-self
 invariant_of-self c =
     let s = c.args.self.now in
-    (omega arith, (omega arith, (omega arith, (omega arith, (omega arith, (omega arith, (omega arith, (omega arith, (omega arith, (s.args_order, (s.groups_order, (ap (λ es. climbing 1 (marks es) s.next) c.replace.ensures.items ∙ ap (λ ms. climbing 1 ms s.next) (marks_replaced _ _ (vec_items s.subcommands)) ∙ s.subcommands_order, tt))))))))))))
+    record {
+      few_args = omega arith;
+      few_groups = omega arith;
+      few_subcommands = omega arith;
+      few_rows = omega arith;
+      args_room = omega arith;
+      groups_room = omega arith;
+      subcommands_room = omega arith;
+      rows_room = omega arith;
+      last = omega arith;
+      args_order = s.args_order;
+      groups_order = s.groups_order;
+      subcommands_order = ap (λ es. climbing 1 (marks es) s.next) c.replace.ensures.items ∙ ap (λ ms. climbing 1 ms s.next) (marks_replaced _ _ (vec_items s.subcommands)) ∙ s.subcommands_order;
+    }
 
 pub returns : goal.returns
 unfolding tables_marked

@@ -10,7 +10,20 @@ invariant_of-result c =
     let g = c.in_ok-groups.ensures in
     let s = c.in_ok-subcommands.ensures in
     let r = c.in_ok-rows.ensures in
-    (omega arith, (omega arith, (omega arith, (omega arith, (a.capacity, (g.capacity, (s.capacity, (r.capacity, (omega arith, (rw a.items, (rw g.items, (rw s.items, tt))))))))))))
+    record {
+      few_args = omega arith;
+      few_groups = omega arith;
+      few_subcommands = omega arith;
+      few_rows = omega arith;
+      args_room = a.capacity;
+      groups_room = g.capacity;
+      subcommands_room = s.capacity;
+      rows_room = r.capacity;
+      last = omega arith;
+      args_order = rw a.items;
+      groups_order = rw g.items;
+      subcommands_order = rw s.items;
+    }
 
 pub returns : goal.returns
 unfolding tables_marked

@@ -9,40 +9,21 @@ use Rattle.book_tables.proofs.tables.Tables.strike.Goals as goal
 pub invariant_of-self : goal.invariant_of-self
 invariant_of-self c =
     let s = c.args.self.now in
-    let k = c.args.mark in (
-      omega arith,
-      (
-        omega arith,
-        (
-          omega arith,
-          (
-            omega arith,
-            (
-              omega arith,
-              (
-                omega arith,
-                (
-                  omega arith,
-                  (
-                    omega arith,
-                    (
-                      omega arith,
-                      (
-                        rw c.sweep.ensures.items (climbing_kept 1 k (vec_items s.args) s.next s.args_order),
-                        (
-                          rw c.sweep-2.ensures.items (climbing_kept 1 k (vec_items s.groups) s.next s.groups_order),
-                          (rw c.sweep-3.ensures.items (climbing_kept 1 k (vec_items s.subcommands) s.next s.subcommands_order), tt),
-                        ),
-                      ),
-                    ),
-                  ),
-                ),
-              ),
-            ),
-          ),
-        ),
-      ),
-    )
+    let k = c.args.mark in
+    record {
+      few_args = omega arith;
+      few_groups = omega arith;
+      few_subcommands = omega arith;
+      few_rows = omega arith;
+      args_room = omega arith;
+      groups_room = omega arith;
+      subcommands_room = omega arith;
+      rows_room = omega arith;
+      last = omega arith;
+      args_order = rw c.sweep.ensures.items (climbing_kept 1 k (vec_items s.args) s.next s.args_order);
+      groups_order = rw c.sweep-2.ensures.items (climbing_kept 1 k (vec_items s.groups) s.next s.groups_order);
+      subcommands_order = rw c.sweep-3.ensures.items (climbing_kept 1 k (vec_items s.subcommands) s.next s.subcommands_order);
+    }
 
 pub returns : goal.returns
 unfolding tables_marked
