@@ -62,7 +62,7 @@ fn expect_range(word: &[u8]) -> Result<Result<ValueRange, RangeFault>, FaultKind
 
 // the field that is a word by itself
 fn with_flag(fields: Fields, word: &[u8]) -> Result<Fields, FaultKind> {
-    if word != b"terminated" {
+    if word != b"terminated".as_slice() {
         return Err(FaultKind::NoSuchField);
     }
     if fields.terminated {

@@ -32,4 +32,4 @@ invariant_of-result c =
     let t = b.tables in
     let same = ap (λ rs. keys_in rs c.as_slice.result.now) c.as_slice-2.ensures.value ∙ ap (keys_in (vec_items t.rows)) c.as_slice.ensures.value in
     let all = c.push_all.ensures.items ∙ ap (λ ks. map key_held ks ++ keys_in c.as_slice-2.result.now c.as_slice.result.now) b.none ∙ same in
-    (keys_themselves _ (keys_of (form_of (tables_marked t))) all, (omega (arith, c.push_all.ensures.capacity, b.room), tt))
+    record { keyed = keys_themselves _ (keys_of (form_of (tables_marked t))) all; room = omega (arith, c.push_all.ensures.capacity, b.room) }
