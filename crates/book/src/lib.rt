@@ -1,5 +1,6 @@
 //! A book: a form that calls make and change. An open book takes the calls; a built one shows its form and its keys.
 #![tactic(auto)]
+
 mod key_pushes;
 mod key_rows;
 mod open;

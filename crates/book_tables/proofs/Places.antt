@@ -1,7 +1,7 @@
 -- What stands at a place of a book's tables, and whose lists are shown there.
 use Rattle.std.proofs.Common.{◌≡◌, ℕ, zero, suc, ◌<◌, ◌≤◌, List, [], ◌∷◌, map, length, get_or, Some, None, refl, ap, arith}
 use Rattle.std.specs.List.{slice_get}
-use Rattle.form.specs.Model.{Name, blank_arg, blank_group, blank_subcommand}
+use Rattle.form.specs.Model.{blank_arg, blank_group, blank_subcommand}
 use Rattle.form.specs.Lists.{list_owner, list_sort, names_at, letters_at}
 use Rattle.form.specs.declared.lists.ItemSort.TheVariants as sort
 use Rattle.form.specs.declared.lists.ItemList.{ItemList}

@@ -1,5 +1,6 @@
 //! The tables of a book: marked entries and rows of items, with all the room that they will ever need, and the calls that change them.
 #![tactic(auto)]
+
 mod alter;
 mod attach;
 mod enter;

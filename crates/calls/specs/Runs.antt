@@ -2,7 +2,7 @@
 use Rattle.std.specs.Prelude.{ℕ, Bool, true, false, cond, List, [], ◌∷◌, length, Some, None, Ok, Err, Option, Result, nat_lt}
 use Rattle.form.specs.Model.{Name, Form}
 use Rattle.form.specs.Names.{scalar}
-use Rattle.form.specs.Keys.{KeyName, position, letter, long, Key, keys_of, first_key}
+use Rattle.form.specs.Keys.{position, letter, long, Key, keys_of, first_key}
 use Rattle.form.specs.declared.refusal.Refusal.{Refusal}
 use Rattle.form.specs.declared.refusal.Refusal.TheVariants.{RangeOrder, NoSuchKey}
 use Rattle.rules.specs.declared.breach.Breach.{Breach}

@@ -1,5 +1,6 @@
 //! The calls of a book: what each is given, what it answers, the marked form after it, and the law over a whole run of calls.
 #![tactic(auto)]
+
 mod call;
 mod laws;
 mod records;

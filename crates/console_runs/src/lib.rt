@@ -1,5 +1,6 @@
 //! What the desk says of a script: why a line is no call, the answers of a run, and a run in words.
 #![tactic(auto)]
+
 mod answers;
 mod calls_of;
 mod changes;

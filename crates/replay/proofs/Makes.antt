@@ -1,11 +1,11 @@
 -- A call whose range was made is the call that was given.
-use Rattle.std.proofs.Common.{◌≡◌, ℕ, Bool, true, false, cond, Some, None, Option, sym, refl, ap, ◌∙◌, arith}
+use Rattle.std.proofs.Common.{◌≡◌, ℕ, Bool, true, false, cond, Some, None, Option, sym, ap, ◌∙◌, arith}
 use Rattle.std.specs.Option.{option_map}
 use Rattle.form.specs.Model.{Range}
 use Rattle.form.specs.Shown.{ArgRecord}
-use Rattle.calls.specs.Calls.{RecordOf, argument}
-use Rattle.calls.specs.Runs.{CallOf, enter, alter, unmade}
-use Rattle.calls.specs.Called.{range_of, ordered, arg_called, enter_call, alter_call}
+use Rattle.calls.specs.Calls.{argument}
+use Rattle.calls.specs.Runs.{enter, alter, unmade}
+use Rattle.calls.specs.Called.{range_of, ordered, enter_call, alter_call}
 use Rattle.calls.specs.declared.call.ArgCall.{ArgCall}
 use Rattle.calls.specs.declared.call.RecordCall.{RecordCall}
 use Rattle.calls.specs.declared.call.RecordCall.TheVariants.{Argument}

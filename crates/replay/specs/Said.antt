@@ -1,5 +1,5 @@
 -- What the answers of the code stand for.
-use Rattle.std.specs.Prelude.{ℕ, List, Ok, Err, vec_items, Result}
+use Rattle.std.specs.Prelude.{ℕ, Ok, Err, vec_items, Result}
 use Rattle.form.specs.Model.{Form}
 use Rattle.form.specs.declared.refusal.Refusal.{Refusal}
 use Rattle.calls.specs.Runs.{CallOf, enter, alter, unmade, strike, attach, set, build, reopen, report, first, find, open_answer, built_answer, mark_given, done, refused, too_short, listed, first_told, place_found, not_now}

@@ -1,5 +1,6 @@
 //! Runs of calls on one book, and the law over a whole run.
 #![tactic(auto)]
+
 mod answer;
 mod ask;
 mod book_held;

@@ -1,5 +1,5 @@
 -- A byte more in 33 places.
-use Rattle.std.proofs.Common.{◌≡◌, ℕ, ◌+◌, ◌<◌, ◌≤◌, List, [], ◌∷◌, ◌++◌, length, take, set, sym, refl, ap, ◌∙◌, add-one, arith, length-append, length-take, take_all, take-suc-set}
+use Rattle.std.proofs.Common.{◌≡◌, ℕ, ◌+◌, ◌<◌, ◌≤◌, List, [], ◌∷◌, ◌++◌, length, take, set, sym, ap, ◌∙◌, add-one, arith, length-append, length-take, take_all, take-suc-set}
 use lib.Seq.{take-append-le}
 
 pub push_fits : (bs : List ℕ) (n b : ℕ) → n < length bs → n < 33 → take (n + 1) (set bs n b) ≡ take 33 (take n bs ++ (b ∷ []))

@@ -1,5 +1,6 @@
 //! Scripts: calls on a book as people write them, one a line.
 #![tactic(auto)]
+
 mod fault;
 mod fields;
 mod line;

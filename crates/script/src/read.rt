@@ -111,7 +111,9 @@ fn read_find(rest: &[u8]) -> Result<Line, Fault> {
 
 fn read_record(rest: &[u8]) -> Result<RecordLine, Fault> {
     let (kind, rest) = expect_word(rest)?;
-    let known = kind == b"argument".as_slice() || kind == b"group".as_slice() || kind == b"subcommand".as_slice();
+    let known = kind == b"argument".as_slice()
+        || kind == b"group".as_slice()
+        || kind == b"subcommand".as_slice();
     if !known {
         return Err(Fault::new(FaultKind::NoSuchKind, rest));
     }
