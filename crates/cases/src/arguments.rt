@@ -1,5 +1,6 @@
 use super::shown::*;
 use form::{ArgAction, ArgView};
+use std::test::Fail;
 use table::ArgRow;
 
 #[test]

@@ -4,6 +4,7 @@ use form::AppFlags;
 use report::{first, report};
 use rules::Breach;
 use std::alloc::Global;
+use std::test::Fail;
 use table::TableForm;
 
 // a breach in plain notation

@@ -7,6 +7,7 @@ use rules::Breach;
 use std::alloc::Global;
 use std::fmt::Write;
 use std::process::Abort;
+use std::test::Fail;
 use table::{ArgRow, TableForm};
 
 // the breaches of a form of arguments under the standard flags

@@ -1,4 +1,5 @@
 use super::shown::*;
+use std::test::Fail;
 use table::{ArgRow, GroupRow, SubcommandRow};
 
 #[test]

@@ -1,5 +1,6 @@
 //! Forms, each with the breaches that the definition gives it, and near misses that break nothing.
 #![tactic(auto)]
+
 #[cfg(test)]
 mod arguments;
 #[cfg(test)]

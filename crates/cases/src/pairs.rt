@@ -1,5 +1,6 @@
 use super::shown::*;
 use form::{ArgView, SubcommandView};
+use std::test::Fail;
 use table::{ArgRow, GroupRow, SubcommandRow};
 
 fn subcommand(

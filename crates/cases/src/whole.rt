@@ -1,5 +1,6 @@
 use super::shown::*;
 use form::{ArgAction, ArgView, SubcommandView};
+use std::test::Fail;
 use table::{ArgRow, GroupRow, SubcommandRow};
 
 const MULTICALL: u16 = 1;

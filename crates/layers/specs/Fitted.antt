@@ -5,10 +5,10 @@ use Rattle.form.specs.Model.{Form}
 use Rattle.form.specs.Limits.{Fits, summed, arg_items}
 use Rattle.layers.specs.Flags.{help, version, where_wanted, wanted, wants_help, wants_version, with_flags}
 
-summed-++ : {X : Type 0} (size : X → ℕ) (xs ys : List X) → summed size (xs ++ ys) ≡ summed size xs + summed size ys
+summed_append : {X : Type 0} (size : X → ℕ) (xs ys : List X) → summed size (xs ++ ys) ≡ summed size xs + summed size ys
 unfolding summed
-summed-++ size [] ys = omega arith
-summed-++ size (x ∷ xs) ys = omega (arith, summed-++ size xs ys)
+summed_append size [] ys = omega arith
+summed_append size (x ∷ xs) ys = omega (arith, summed_append size xs ys)
 
 summed_take : {X : Type 0} (size : X → ℕ) (n : ℕ) (xs : List X) → summed size (take n xs) ≤ summed size xs
 unfolding summed
@@ -28,5 +28,5 @@ flags_fit f fit = record {
   args = omega (arith, length-take 80 (f.args ++ wanted f));
   groups = fit.groups;
   subcommands = fit.subcommands;
-  items = omega (arith, fit.items, summed_take arg_items 80 (f.args ++ wanted f), summed-++ arg_items f.args (wanted f), no_items (wants_help f) (wants_version f));
+  items = omega (arith, fit.items, summed_take arg_items 80 (f.args ++ wanted f), summed_append arg_items f.args (wanted f), no_items (wants_help f) (wants_version f));
 }

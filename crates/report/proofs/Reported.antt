@@ -82,10 +82,10 @@ module _ (f : Form) (room : List Breach) (n : ℕ) (is : n ≡ length (breaches 
 
 -- a list that was made for the breaches, filled
 pub all_is : (f : Form) (room after rest : List Breach) (n len : ℕ) → n ≡ length (breaches f) → n ≤ length room → len ≡ n → after ≡ (fold put (room, 0) (breaches f)).0 → take len (after ++ rest) ≡ breaches f
-all_is f room after rest n len is fits e FilledIn =
+all_is f room after rest n len is fits e filled =
     let le : length (breaches f) ≤ length room = omega arith in
     let front : after ++ rest ≡ breaches f ++ (drop (length (breaches f)) room ++ rest)
-    = ap (λ l. l ++ rest) (FilledIn ∙ fill_is room (breaches f) le) ∙ append_assoc (breaches f) _ rest in
+    = ap (λ l. l ++ rest) (filled ∙ fill_is room (breaches f) le) ∙ append_assoc (breaches f) _ rest in
     ap (λ k. take k (after ++ rest)) (e ∙ is) ∙ ap (take (length (breaches f))) front ∙ take-append_seam (breaches f) _
 
 pub all_lists : (f : Form) (bs : List Breach) → bs ≡ breaches f → Lists f bs

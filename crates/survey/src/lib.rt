@@ -25,3 +25,4 @@ mod version;
 mod whole;
 
 pub use sections::survey;
+pub use sinks::{Count, Fill, First, Row, Same, Sink, offer_same};
