@@ -6,13 +6,11 @@ use report::report;
 use rules::Breach;
 use std::alloc::Global;
 use std::fmt::Write;
-use std::process::Abort;
 use std::test::Fail;
 use table::{ArgRow, TableForm};
 
 // the breaches of a form of arguments under the standard flags
 fn expect_under(
-    rt: &impl Abort,
     heap: Global,
     settings: u16,
     args: &[ArgRow<'static>],
@@ -21,13 +19,11 @@ fn expect_under(
     let form = TableForm::of_args(AppFlags::from_bits(settings), args);
     let layer = StandardFlags::new(form);
     let text = told(heap, &layer)?;
-    assert_eq!(rt; text.as_str(), expected);
-    Ok(())
+    same_text(text.as_str(), expected)
 }
 
 // the same under the standard flags twice
 fn expect_twice(
-    rt: &impl Abort,
     heap: Global,
     settings: u16,
     args: &[ArgRow<'static>],
@@ -36,8 +32,7 @@ fn expect_twice(
     let form = TableForm::of_args(AppFlags::from_bits(settings), args);
     let layer = StandardFlags::new(StandardFlags::new(form));
     let text = told(heap, &layer)?;
-    assert_eq!(rt; text.as_str(), expected);
-    Ok(())
+    same_text(text.as_str(), expected)
 }
 
 // the number of arguments that the standard flags show over an empty form
@@ -95,9 +90,8 @@ fn the_standard_flags_follow_the_arguments(rt: HostRuntime) -> Result<(), Fail> 
 fn standard_flags_that_clash(rt: HostRuntime) -> Result<(), Fail> {
     let heap = rt.alloc();
     let args = [row(option(b"a"))];
-    expect_under(&rt, heap, 64, &args, SOUND)?;
+    expect_under(heap, 64, &args, SOUND)?;
     expect_under(
-        &rt,
         heap,
         1 + 32,
         &args,
@@ -110,14 +104,13 @@ fn standard_flags_that_clash(rt: HostRuntime) -> Result<(), Fail> {
     };
     let args = [row(both)];
     let clash = "breaches 4\n20 a0 a1 0 0 0\n21 a0 a1 0 0 0\n36 a0 a1 0 0 0\n37 a0 a1 0 0 0\n";
-    expect_under(&rt, heap, 0, &args, clash)?;
-    expect_under(&rt, heap, 16, &args, SOUND)?;
+    expect_under(heap, 0, &args, clash)?;
+    expect_under(heap, 16, &args, SOUND)?;
     let twice =
         "breaches 11\n20 a0 a1 0 0 0\n20 a0 a2 0 0 0\n21 a0 a1 0 0 0\n21 a0 a2 0 0 0\n19 a1 a2 0 0 0\n20 a1 a2 0 0 0\n21 a1 a2 0 0 0\n36 a0 a1 0 0 0\n36 a0 a2 0 0 0\n37 a0 a1 0 0 0\n37 a0 a2 0 0 0\n";
-    expect_twice(&rt, heap, 0, &args, twice)?;
+    expect_twice(heap, 0, &args, twice)?;
     let args = [row(option(b"help"))];
     expect_under(
-        &rt,
         heap,
         0,
         &args,
@@ -130,16 +123,15 @@ fn two_layers_clash_but_not_by_flags_of_one_id(rt: HostRuntime) -> Result<(), Fa
     let heap = rt.alloc();
     let none: [ArgRow<'static>; 0] = [];
     expect_twice(
-        &rt,
         heap,
         0,
         &none,
         "breaches 3\n19 a0 a1 0 0 0\n20 a0 a1 0 0 0\n21 a0 a1 0 0 0\n",
     )?;
-    expect_twice(&rt, heap, 16, &none, SOUND)?;
+    expect_twice(heap, 16, &none, SOUND)?;
     let six =
         "breaches 6\n19 a0 a2 0 0 0\n20 a0 a2 0 0 0\n21 a0 a2 0 0 0\n19 a1 a3 0 0 0\n20 a1 a3 0 0 0\n21 a1 a3 0 0 0\n";
-    expect_twice(&rt, heap, 64, &none, six)
+    expect_twice(heap, 64, &none, six)
 }
 
 // n equal arguments make n (n - 1) / 2 pairs, and each pair breaks 19 and 20
@@ -181,8 +173,8 @@ fn eighty() -> [ArgRow<'static>; 80] {
 fn a_cut_form_breaks_nothing_else(rt: HostRuntime) -> Result<(), Fail> {
     let heap = rt.alloc();
     let args = eighty();
-    expect_args(&rt, heap, 0, &args, SOUND)?;
-    expect_under(&rt, heap, 0, &args, "breaches 1\n51 - - 0 0 0\n")?;
-    expect_under(&rt, heap, 16, &args, SOUND)?;
-    expect_twice(&rt, heap, 0, &args, "breaches 1\n51 - - 0 0 0\n")
+    expect_args(heap, 0, &args, SOUND)?;
+    expect_under(heap, 0, &args, "breaches 1\n51 - - 0 0 0\n")?;
+    expect_under(heap, 16, &args, SOUND)?;
+    expect_twice(heap, 0, &args, "breaches 1\n51 - - 0 0 0\n")
 }

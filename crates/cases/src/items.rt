@@ -11,7 +11,7 @@ fn an_argument_that_requires_itself(rt: HostRuntime) -> Result<(), Fail> {
         ..ArgRow::new(b"a")
     };
     let args = [own, row(option(b"b"))];
-    expect_args(&rt, heap, 0, &args, "breaches 1\n23 a0 - 1 1 0\n")?;
+    expect_args(heap, 0, &args, "breaches 1\n23 a0 - 1 1 0\n")?;
     let harmless = ArgRow {
         arg: option(b"a"),
         requirements: &[b"b"],
@@ -20,7 +20,7 @@ fn an_argument_that_requires_itself(rt: HostRuntime) -> Result<(), Fail> {
         ..ArgRow::new(b"a")
     };
     let args = [harmless, row(option(b"b"))];
-    expect_args(&rt, heap, 0, &args, SOUND)
+    expect_args(heap, 0, &args, SOUND)
 }
 
 #[test]
@@ -36,7 +36,7 @@ fn a_required_argument_with_conditions(rt: HostRuntime) -> Result<(), Fail> {
         ..ArgRow::new(b"a")
     };
     let args = [optional, b];
-    expect_args(&rt, heap, 0, &args, SOUND)?;
+    expect_args(heap, 0, &args, SOUND)?;
     let required = ArgRow {
         arg: with_bits(option(b"a"), REQUIRED),
         ..optional
@@ -44,7 +44,7 @@ fn a_required_argument_with_conditions(rt: HostRuntime) -> Result<(), Fail> {
     let args = [required, b];
     let each =
         "breaches 5\n24 a0 - 2 0 0\n24 a0 - 3 0 0\n24 a0 - 4 0 0\n24 a0 - 5 0 0\n24 a0 - 5 1 0\n";
-    expect_args(&rt, heap, 0, &args, each)?;
+    expect_args(heap, 0, &args, each)?;
     let other = ArgRow {
         arg: with_bits(option(b"a"), REQUIRED),
         requirements: &[b"b"],
@@ -53,11 +53,11 @@ fn a_required_argument_with_conditions(rt: HostRuntime) -> Result<(), Fail> {
         ..ArgRow::new(b"a")
     };
     let args = [other, b];
-    expect_args(&rt, heap, 0, &args, SOUND)?;
+    expect_args(heap, 0, &args, SOUND)?;
     let args = [required];
     let both =
         "breaches 10\n24 a0 - 2 0 0\n25 a0 - 2 0 0\n24 a0 - 3 0 0\n25 a0 - 3 0 0\n24 a0 - 4 0 0\n25 a0 - 4 0 0\n24 a0 - 5 0 0\n25 a0 - 5 0 0\n24 a0 - 5 1 0\n25 a0 - 5 1 0\n";
-    expect_args(&rt, heap, 0, &args, both)
+    expect_args(heap, 0, &args, both)
 }
 
 #[test]
@@ -78,12 +78,12 @@ fn references_that_meet_nothing(rt: HostRuntime) -> Result<(), Fail> {
     let args = [all, row(option(b"b"))];
     let each =
         "breaches 7\n25 a0 - 1 0 0\n25 a0 - 2 0 0\n25 a0 - 3 0 0\n25 a0 - 4 0 0\n25 a0 - 5 0 0\n25 a0 - 6 1 0\n25 a0 - 7 0 0\n";
-    expect_args(&rt, heap, 0, &args, each)?;
+    expect_args(heap, 0, &args, each)?;
     let x = [GroupRow::new(b"x")];
     let none: [SubcommandRow<'static>; 0] = [];
-    expect(&rt, heap, 0, &args, &x, &none, SOUND)?;
+    expect(heap, 0, &args, &x, &none, SOUND)?;
     let args = [all, row(option(b"b")), row(option(b"x"))];
-    expect_args(&rt, heap, 0, &args, SOUND)
+    expect_args(heap, 0, &args, SOUND)
 }
 
 #[test]
@@ -97,17 +97,9 @@ fn a_conflict_that_names_only_a_subcommand(rt: HostRuntime) -> Result<(), Fail> 
     let args = [conflict];
     let none: [GroupRow<'static>; 0] = [];
     let x = [SubcommandRow::new(b"x")];
-    expect(
-        &rt,
-        heap,
-        0,
-        &args,
-        &none,
-        &x,
-        "breaches 1\n25 a0 - 6 0 0\n",
-    )?;
+    expect(heap, 0, &args, &none, &x, "breaches 1\n25 a0 - 6 0 0\n")?;
     let groups = [GroupRow::new(b"x")];
-    expect(&rt, heap, 0, &args, &groups, &x, SOUND)
+    expect(heap, 0, &args, &groups, &x, SOUND)
 }
 
 #[test]
@@ -125,11 +117,11 @@ fn references_of_groups(rt: HostRuntime) -> Result<(), Fail> {
     };
     let groups = [missing, h];
     let each = "breaches 4\n33 g0 - 10 1 0\n33 g0 - 10 2 0\n34 g0 - 11 0 0\n35 g0 - 12 2 0\n";
-    expect(&rt, heap, 0, &args, &groups, &none, each)?;
-    expect(&rt, heap, 0, &args, &groups, &x, each)?;
+    expect(heap, 0, &args, &groups, &none, each)?;
+    expect(heap, 0, &args, &groups, &x, each)?;
     let groups = [missing, h, GroupRow::new(b"x")];
     let of_members = "breaches 2\n33 g0 - 10 1 0\n33 g0 - 10 2 0\n";
-    expect(&rt, heap, 0, &args, &groups, &none, of_members)?;
+    expect(heap, 0, &args, &groups, &none, of_members)?;
     let met = GroupRow {
         members: &[b"a"],
         requirements: &[b"a", b"h", b"g"],
@@ -137,5 +129,5 @@ fn references_of_groups(rt: HostRuntime) -> Result<(), Fail> {
         ..GroupRow::new(b"g")
     };
     let groups = [met, h];
-    expect(&rt, heap, 0, &args, &groups, &none, SOUND)
+    expect(heap, 0, &args, &groups, &none, SOUND)
 }

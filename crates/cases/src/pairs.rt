@@ -28,21 +28,19 @@ fn same_ids_and_long_names(rt: HostRuntime) -> Result<(), Fail> {
         ..option(b"c")
     };
     let args = [row(a), row(other)];
-    expect_args(&rt, heap, 0, &args, "breaches 1\n19 a0 a1 0 0 0\n")?;
+    expect_args(heap, 0, &args, "breaches 1\n19 a0 a1 0 0 0\n")?;
     let args = [row(a), row(other), row(third)];
     expect_args(
-        &rt,
         heap,
         0,
         &args,
         "breaches 3\n19 a0 a1 0 0 0\n19 a0 a2 0 0 0\n19 a1 a2 0 0 0\n",
     )?;
     let args = [row(a), row(option(b"A")), row(option(b"ab"))];
-    expect_args(&rt, heap, 0, &args, SOUND)?;
+    expect_args(heap, 0, &args, SOUND)?;
     let twin = ArgView { id: b"b", ..a };
     let args = [row(a), row(twin)];
     expect_args(
-        &rt,
         heap,
         0,
         &args,
@@ -50,7 +48,6 @@ fn same_ids_and_long_names(rt: HostRuntime) -> Result<(), Fail> {
     )?;
     let args = [row(a), row(a)];
     expect_args(
-        &rt,
         heap,
         0,
         &args,
@@ -63,17 +60,15 @@ fn same_letters(rt: HostRuntime) -> Result<(), Fail> {
     let heap = rt.alloc();
     let args = [row(short(b"a", 'x')), row(short(b"b", 'x'))];
     expect_args(
-        &rt,
         heap,
         0,
         &args,
         "breaches 2\n21 a0 a1 0 0 0\n37 a0 a1 0 0 0\n",
     )?;
     let args = [row(short(b"a", 'x')), row(short(b"b", 'X'))];
-    expect_args(&rt, heap, 0, &args, SOUND)?;
+    expect_args(heap, 0, &args, SOUND)?;
     let args = [row(short(b"a", 'x')), row(short(b"a", 'x'))];
     expect_args(
-        &rt,
         heap,
         0,
         &args,
@@ -86,41 +81,29 @@ fn same_letters(rt: HostRuntime) -> Result<(), Fail> {
     ];
     let own =
         "breaches 6\n21 a0 a1 0 0 0\n21 a0 a2 0 0 0\n21 a1 a2 0 0 0\n37 a0 a1 0 0 0\n37 a0 a2 0 0 0\n37 a1 a2 0 0 0\n";
-    expect_args(&rt, heap, 0, &args, own)
+    expect_args(heap, 0, &args, own)
 }
 
 #[test]
 fn same_indices_and_two_last(rt: HostRuntime) -> Result<(), Fail> {
     let heap = rt.alloc();
     let args = [row(place(b"a", 1)), row(place(b"b", 1))];
-    expect_args(
-        &rt,
-        heap,
-        0,
-        &args,
-        "breaches 2\n22 a0 a1 0 0 0\n40 - - 0 0 0\n",
-    )?;
+    expect_args(heap, 0, &args, "breaches 2\n22 a0 a1 0 0 0\n40 - - 0 0 0\n")?;
     let flagged = ArgView {
         letter: Some('b'),
         ..place(b"b", 1)
     };
     let args = [row(place(b"a", 1)), row(flagged)];
-    expect_args(
-        &rt,
-        heap,
-        0,
-        &args,
-        "breaches 2\n9 a1 - 0 0 0\n40 - - 0 0 0\n",
-    )?;
+    expect_args(heap, 0, &args, "breaches 2\n9 a1 - 0 0 0\n40 - - 0 0 0\n")?;
     let a = with_bits(place(b"a", 1), LAST);
     let b = with_bits(place(b"b", 2), LAST);
     let c = with_bits(place(b"c", 3), LAST);
     let args = [row(a), row(b)];
-    expect_args(&rt, heap, 0, &args, "breaches 1\n48 a0 a1 0 0 0\n")?;
+    expect_args(heap, 0, &args, "breaches 1\n48 a0 a1 0 0 0\n")?;
     let args = [row(a), row(place(b"b", 2)), row(c)];
-    expect_args(&rt, heap, 0, &args, "breaches 1\n48 a0 a2 0 0 0\n")?;
+    expect_args(heap, 0, &args, "breaches 1\n48 a0 a2 0 0 0\n")?;
     let args = [row(a), row(with_bits(short(b"b", 'b'), LAST))];
-    expect_args(&rt, heap, 0, &args, "breaches 1\n27 a1 - 0 0 0\n")
+    expect_args(heap, 0, &args, "breaches 1\n27 a1 - 0 0 0\n")
 }
 
 #[test]
@@ -131,7 +114,6 @@ fn ids_of_groups(rt: HostRuntime) -> Result<(), Fail> {
     let g = GroupRow::new(b"g");
     let groups = [g, GroupRow::new(b"h"), g];
     expect(
-        &rt,
         heap,
         0,
         &args,
@@ -140,10 +122,9 @@ fn ids_of_groups(rt: HostRuntime) -> Result<(), Fail> {
         "breaches 1\n31 g0 g2 0 0 0\n",
     )?;
     let groups = [g, GroupRow::new(b"h")];
-    expect(&rt, heap, 0, &args, &groups, &none, SOUND)?;
+    expect(heap, 0, &args, &groups, &none, SOUND)?;
     let groups = [g, GroupRow::new(b"a")];
     expect(
-        &rt,
         heap,
         0,
         &args,
@@ -153,7 +134,7 @@ fn ids_of_groups(rt: HostRuntime) -> Result<(), Fail> {
     )?;
     let subcommands = [SubcommandRow::new(b"g")];
     let groups = [g];
-    expect(&rt, heap, 0, &args, &groups, &subcommands, SOUND)
+    expect(heap, 0, &args, &groups, &subcommands, SOUND)
 }
 
 #[test]
@@ -164,7 +145,6 @@ fn long_flags_of_subcommands(rt: HostRuntime) -> Result<(), Fail> {
     let x = subcommand(b"s", Some(b"x"), None);
     let subcommands = [x, subcommand(b"t", Some(b"x"), None)];
     expect(
-        &rt,
         heap,
         0,
         &none,
@@ -173,10 +153,9 @@ fn long_flags_of_subcommands(rt: HostRuntime) -> Result<(), Fail> {
         "breaches 1\n36 s0 s1 0 0 0\n",
     )?;
     let subcommands = [x, subcommand(b"t", Some(b"y"), None)];
-    expect(&rt, heap, 0, &none, &groups, &subcommands, SOUND)?;
+    expect(heap, 0, &none, &groups, &subcommands, SOUND)?;
     let subcommands = [x, x];
     expect(
-        &rt,
         heap,
         0,
         &none,
@@ -198,7 +177,6 @@ fn long_flags_of_both_kinds(rt: HostRuntime) -> Result<(), Fail> {
         ..option(b"x")
     })];
     expect(
-        &rt,
         heap,
         0,
         &args,
@@ -212,7 +190,6 @@ fn long_flags_of_both_kinds(rt: HostRuntime) -> Result<(), Fail> {
     };
     let subcommands = [alias, x];
     expect(
-        &rt,
         heap,
         0,
         &none,
@@ -230,7 +207,6 @@ fn letter_flags_of_subcommands(rt: HostRuntime) -> Result<(), Fail> {
     let x = subcommand(b"s", None, Some('x'));
     let subcommands = [x, subcommand(b"t", None, Some('x'))];
     expect(
-        &rt,
         heap,
         0,
         &none,
@@ -239,11 +215,10 @@ fn letter_flags_of_subcommands(rt: HostRuntime) -> Result<(), Fail> {
         "breaches 1\n37 s0 s1 0 0 0\n",
     )?;
     let subcommands = [x, subcommand(b"t", Some(b"x"), Some('X'))];
-    expect(&rt, heap, 0, &none, &groups, &subcommands, SOUND)?;
+    expect(heap, 0, &none, &groups, &subcommands, SOUND)?;
     let subcommands = [x];
     let args = [row(short(b"s", 'x'))];
     expect(
-        &rt,
         heap,
         0,
         &args,
@@ -257,7 +232,6 @@ fn letter_flags_of_subcommands(rt: HostRuntime) -> Result<(), Fail> {
     };
     let subcommands = [x, alias];
     expect(
-        &rt,
         heap,
         0,
         &none,
@@ -277,10 +251,9 @@ fn aliases_of_arguments(rt: HostRuntime) -> Result<(), Fail> {
         ..ArgRow::new(b"a")
     };
     let args = [own];
-    expect_args(&rt, heap, 0, &args, SOUND)?;
+    expect_args(heap, 0, &args, SOUND)?;
     let args = [own, row(option(b"x"))];
     expect_args(
-        &rt,
         heap,
         0,
         &args,
@@ -288,7 +261,6 @@ fn aliases_of_arguments(rt: HostRuntime) -> Result<(), Fail> {
     )?;
     let args = [row(short(b"y", 'y')), own];
     expect_args(
-        &rt,
         heap,
         0,
         &args,
@@ -305,7 +277,6 @@ fn names_of_subcommands(rt: HostRuntime) -> Result<(), Fail> {
     let t = SubcommandRow::new(b"t");
     let subcommands = [s, t, s];
     expect(
-        &rt,
         heap,
         0,
         &args,
@@ -314,7 +285,7 @@ fn names_of_subcommands(rt: HostRuntime) -> Result<(), Fail> {
         "breaches 1\n38 s2 s0 0 0 0\n",
     )?;
     let subcommands = [s, t];
-    expect(&rt, heap, 0, &args, &groups, &subcommands, SOUND)
+    expect(heap, 0, &args, &groups, &subcommands, SOUND)
 }
 
 #[test]
@@ -334,7 +305,6 @@ fn names_and_aliases_of_subcommands(rt: HostRuntime) -> Result<(), Fail> {
     };
     let subcommands = [also_t, t];
     expect(
-        &rt,
         heap,
         0,
         &args,
@@ -344,7 +314,6 @@ fn names_and_aliases_of_subcommands(rt: HostRuntime) -> Result<(), Fail> {
     )?;
     let subcommands = [s, also_s];
     expect(
-        &rt,
         heap,
         0,
         &args,
@@ -371,7 +340,6 @@ fn aliases_of_subcommands(rt: HostRuntime) -> Result<(), Fail> {
     };
     let subcommands = [also_t, also_s];
     expect(
-        &rt,
         heap,
         0,
         &args,
@@ -385,7 +353,6 @@ fn aliases_of_subcommands(rt: HostRuntime) -> Result<(), Fail> {
     };
     let subcommands = [own, t];
     expect(
-        &rt,
         heap,
         0,
         &args,

@@ -3,7 +3,6 @@ use form::{AppFlags, ArgAction, ArgFlags, ArgView, FormSource, ValueRange};
 use report::report;
 use rules::{Breach, Rule};
 use std::alloc::Global;
-use std::process::Abort;
 use std::test::Fail;
 use table::{ArgRow, GroupRow, SubcommandRow, TableForm};
 
@@ -46,9 +45,17 @@ pub(crate) fn told<F: FormSource>(heap: Global, form: &F) -> Result<String, Fail
     Ok(out)
 }
 
+// whether the text is the one that is expected
+pub(crate) fn same_text(found: &str, expected: &str) -> Result<(), Fail> {
+    if found == expected {
+        Ok(())
+    } else {
+        Err(Fail::new(format_args!("found {found:?}, expected {expected:?}")))
+    }
+}
+
 // whether the form of the tables has just these breaches
 pub(crate) fn expect<'t>(
-    rt: &impl Abort,
     heap: Global,
     settings: u16,
     args: &'t [ArgRow<'static>],
@@ -58,13 +65,11 @@ pub(crate) fn expect<'t>(
 ) -> Result<(), Fail> {
     let form = TableForm::new(AppFlags::from_bits(settings), args, groups, subcommands);
     let text = told(heap, &form)?;
-    assert_eq!(rt; text.as_str(), expected);
-    Ok(())
+    same_text(text.as_str(), expected)
 }
 
 // the same for a form of arguments alone
 pub(crate) fn expect_args(
-    rt: &impl Abort,
     heap: Global,
     settings: u16,
     args: &[ArgRow<'static>],
@@ -72,20 +77,18 @@ pub(crate) fn expect_args(
 ) -> Result<(), Fail> {
     let form = TableForm::of_args(AppFlags::from_bits(settings), args);
     let text = told(heap, &form)?;
-    assert_eq!(rt; text.as_str(), expected);
-    Ok(())
+    same_text(text.as_str(), expected)
 }
 
 // the same for one argument without items
 pub(crate) fn expect_one(
-    rt: &impl Abort,
     heap: Global,
     settings: u16,
     arg: ArgView<'static>,
     expected: &str,
 ) -> Result<(), Fail> {
     let args = [row(arg)];
-    expect_args(rt, heap, settings, &args, expected)
+    expect_args(heap, settings, &args, expected)
 }
 
 // an argument without items
