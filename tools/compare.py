@@ -16,7 +16,7 @@ here = os.path.dirname(os.path.abspath(__file__))
 sys.path.insert(0, here)
 import model
 
-DESK = os.path.join(here, "..", "target", "bin", "desk")
+DESK = os.path.join(here, "..", "crates", "desk", "out", "desk")
 
 
 def spell(x):
