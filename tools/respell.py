@@ -3,17 +3,18 @@
 
 usage: python3 tools/respell.py        at the top of the repository, right after /opt/rattle/port/port.py, once
 
-A name is the repository's own if it has a dash and stands in a file of specs/ or in a lemma file of proofs/, and is not
-imported from the library there. Source code, strings and the answer files' own labels keep their names: in a file of src/
-only `ghost` lines and clauses are looked at.
+A name is the repository's own if it has a dash and stands in a file of specs/ or in a lemma file of proofs/, and no file
+imports it from the library. Strings and the answer files' own labels keep their names; Rust code has no word with a dash.
 """
 import collections
 import glob
 import re
 
 DASHED = r"[A-Za-z][A-Za-z0-9_']*(?:-[A-Za-z0-9_']+)+"
-# names that would fall together with another one in the same scope
-APART = {"Multiple-elsewhere": "IsMultipleElsewhere", "Name-sort": "NameSort", "Letter-sort": "LetterSort"}
+# what an import of the library begins with
+LIBRARY = r"^use (?:Rattle\.std|lib|native|borrow|mathlib|Prim)[\w.]*\.\{([^}]*)\}"
+# a name that would fall together with another one in the same scope, one without a second word, and a variable
+APART = {"Multiple-elsewhere": "IsMultipleElsewhere", "summed-++": "summed_append", "Filled-in": "filled"}
 
 
 def read(path):
@@ -33,7 +34,7 @@ def own_names(antt):
     library, own = set(), set()
     for path in antt:
         text = read(path)
-        for m in re.finditer(r"^use Rattle\.std[\w.]*\.\{([^}]*)\}", text, re.M):
+        for m in re.finditer(LIBRARY, text, re.M):
             library |= set(re.findall(DASHED, m.group(1)))
         if not is_answer(path):
             own |= set(re.findall(DASHED, bare(text)))
@@ -49,6 +50,7 @@ def respelled(name):
 
 
 def turn(text, own):
+    text = text.replace("summed-++", APART["summed-++"])
     return re.sub(r"(?<![A-Za-z0-9_'-])" + DASHED + r"(?![A-Za-z0-9_'-])", lambda m: respelled(m.group(0)) if m.group(0) in own else m.group(0), text)
 
 
