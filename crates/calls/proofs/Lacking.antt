@@ -1,4 +1,4 @@
--- A missing_name breach goes with its entry, while the name stays missing.
+-- A missing-name breach goes with its entry, while the name stays missing.
 use Rattle.std.proofs.Common.{◌≡◌, ℕ, ◌≤◌, Bool, true, false, List, get_or, sym, refl, ap, ◌∙◌, subst, subst₂, arith}
 use Rattle.std.specs.List.{slice_get}
 use Rattle.std.proofs.lemmas.Bool.{both_ways}

@@ -197,7 +197,7 @@ HasId m k x = MarkedId (λ r. r.id) m.args k x ⊎ MarkedId (λ y. y) m.groups k
 abbrev pub IdTouched : List CallOf → List Answer → ℕ → ℕ → Name → Type 0
 IdTouched cs os i j x = (n : ℕ) × (k : ℕ) × Touched cs os i j n k × (HasId (held cs os n).book k x ⊎ HasId (held cs os (suc n)).book k x)
 
--- STABLE, for missing names. A missing_name breach of an accepted report tells a missing name. Where it stands with that name in just one of two accepted reports,
+-- STABLE, for missing names. A missing-name breach of an accepted report tells a missing name. Where it stands with that name in just one of two accepted reports,
 -- it names an entry that an accepted call between them touched, or such a call touched an entry whose id, before or after it, is the missing name.
 pub record StableMissing (cs : List CallOf) (os : List Answer) : Type 0 where
   pub told : (i : ℕ) (bs : List Breach) (t : MarkedBreach) → Reported cs os i bs → class t.rule ≡ missing

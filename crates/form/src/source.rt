@@ -1,4 +1,4 @@
-ghost use Rattle.std.specs.Prelude.{◌≡◌, ℕ, [], length, get_or, slice_index, slice_index_or};
+ghost use Rattle.std.specs.Prelude.{◌≡◌, ℕ, [], length, slice_index, slice_index_or};
 ghost use Rattle.std.specs.Option.{option_map};
 ghost use Rattle.std.specs.List.{slice_get};
 ghost use Rattle.form.specs.Model.{Form, blank_arg, blank_group, blank_subcommand};
@@ -40,7 +40,7 @@ pub trait FormSource {
         ensures { shown result ≡ arg_record (slice_index_or (form self.now).args place blank_arg) };
 
     fn group(&self, place: usize) -> GroupView<'_>
-        ensures { result.id.now ≡ (get_or (form self.now).groups place blank_group).id };
+        ensures { result.id.now ≡ (slice_index_or (form self.now).groups place blank_group).id };
 
     fn subcommand(&self, place: usize) -> SubcommandView<'_>
         ensures { shown_subcommand result ≡ subcommand_record (slice_index_or (form self.now).subcommands place blank_subcommand) };

@@ -1,5 +1,5 @@
 -- The keys of one argument, in parts.
-use Rattle.std.specs.Prelude.{ℕ, List, ◌++◌, map, get_or, Option, slice_index_or}
+use Rattle.std.specs.Prelude.{ℕ, List, ◌++◌, map, Option, slice_index_or}
 use Rattle.form.specs.Model.{Name, Form, blank_arg}
 use Rattle.form.specs.Keys.{KeyName, letter, long, listed, key_names}
 
@@ -13,4 +13,4 @@ own_names c s = map letter (listed c) ++ long_names s
 
 -- the keys of the argument at the place of a form
 abbrev pub names_at_place : Form → ℕ → List KeyName
-names_at_place f p = key_names (get_or f.args p blank_arg).index (slice_index_or f.args p blank_arg)
+names_at_place f p = key_names (slice_index_or f.args p blank_arg).index (slice_index_or f.args p blank_arg)

@@ -1,6 +1,6 @@
 -- The test of a rule's row decides the condition of its clause on the page: a lemma for each rule of which the test has parts.
--- The other rules go by lemmas of Decided.antt and Coded.antt, or of the library, as they stand: 3 and 18 by dashed_decides, 4, 19, 31 and 32 by sameBytes-decides, 20 to 22 by long-, letter- and index_decides,
--- 25 and 33 to 35 by missing- and no_arg_decides, 36 to 39 by differ- and earlier_decides; of 17 and 51 the test is the condition. The bits of 16 are told by bit-found and found_bit.
+-- The other rules go by lemmas of Decided.antt and Coded.antt, or of the library, as they stand: 3 and 18 by dashed_decides, 4, 19, 31 and 32 by bytes_eq-Decides, 20 to 22 by long_decides, letter_decides and index_decides,
+-- 25 and 33 to 35 by missing_decides and no_arg_decides, 36 to 39 by differ_decides and earlier_decides; of 17 and 51 the test is the condition. The bits of 16 are told by bit_found and found_bit.
 use Rattle.std.proofs.Common.{◌≡◌, ℕ, suc, ◌<◌, ◌≤◌, true, false, not, ◌&&◌, ltb, ◌⊎◌, List, [], ◌∷◌, length, Some, None, Decides, refl, arith}
 use lib.Bits.{bit_and}
 use Rattle.std.proofs.lemmas.Slice.Eq.{bytes_eq-Decides}

@@ -1,5 +1,5 @@
 -- The rules as tables to run: a row has its rule and a test, typed by what the rule may look at.
--- An own test sees its entry, a pair test its two entries, a missing_name row a name and the ids; only a whole test sees the form.
+-- An own test sees its entry, a pair test its two entries, a missing-name row a name and the ids; only a whole test sees the form.
 use Rattle.std.specs.Prelude.{ℕ, zero, suc, ◌-◌, max, Bool, false, cond, not, ◌&&◌, ◌||◌, List, [], ◌∷◌, ◌++◌, map, length, is_some, Some, None, filter, Option, ◌==◌, bit_and, nat_eq, nat_le, nat_lt, slice_index_or}
 use Rattle.std.specs.List.{range_with_len}
 use Rattle.std.specs.Str.{bytes_eq}
