@@ -1,5 +1,5 @@
 -- What the answers of the code stand for.
-use Rattle.std.specs.Prelude.{ℕ, Ok, Err, vec_items, Result}
+use Rattle.std.specs.Prelude.{ℕ, Bool, true, false, Ok, Err, vec_items, Result}
 use Rattle.form.specs.Model.{Form}
 use Rattle.form.specs.declared.refusal.Refusal.{Refusal}
 use Rattle.calls.specs.Runs.{CallOf, enter, alter, unmade, strike, attach, set, build, reopen, report, first, find, open_answer, built_answer, mark_given, done, refused, too_short, listed, first_told, place_found, not_now}
@@ -50,3 +50,17 @@ changed_answer m reopen = not_now
 changed_answer m (report room) = not_now
 changed_answer m first = not_now
 changed_answer m (find k) = not_now
+
+-- the call asks for a report
+abbrev pub asks_report : CallOf → Bool
+asks_report (enter r) = false
+asks_report (alter k r) = false
+asks_report unmade = false
+asks_report (strike k) = false
+asks_report (attach k l x) = false
+asks_report (set s) = false
+asks_report build = false
+asks_report reopen = false
+asks_report (report room) = true
+asks_report first = false
+asks_report (find k) = false

@@ -1,9 +1,9 @@
-ghost use Rattle.std.specs.Prelude.{◌≡◌, IfOk};
+ghost use Rattle.std.specs.Prelude.{◌≡◌, true, IfOk, OnErr};
 ghost use Rattle.form.specs.Keys.{keys_of};
 ghost use Rattle.rules.specs.Report.{breaches};
 ghost use Rattle.calls.specs.Runs.{by_letter, find_answer, listed_or};
 ghost use Rattle.calls.specs.Called.{sought, called};
-ghost use Rattle.replay.specs.Said.{said, placed_or, asked_answer};
+ghost use Rattle.replay.specs.Said.{said, placed_or, asked_answer, asks_report};
 
 use super::answer::Answer;
 use calls::{Call, Sought};
@@ -54,7 +54,8 @@ fn ask_report<F: FormSource>(heap: Global, form: &F, room: usize) -> Result<Answ
 
 /// What a built book, or a form over it, answers to a call other than reopen; it fails only for want of memory for a report.
 pub(crate) fn ask<K: Keyed>(heap: Global, form: &K, call: Call<'_>) -> Result<Answer, AllocError>
-    ensures { IfOk result (λ a. said a ≡ asked_answer (K.FormSource.form form.now) (called call.entry)) }
+    ensures answer { IfOk result (λ a. said a ≡ asked_answer (K.FormSource.form form.now) (called call.entry)) }
+    ensures memory { OnErr result (asks_report (called call.entry) ≡ true) }
 {
     match call {
         Call::Report(room) => ask_report(heap, form, room),

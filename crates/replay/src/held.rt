@@ -1,9 +1,9 @@
-ghost use Rattle.std.specs.Prelude.{◌≡◌, IfOk};
+ghost use Rattle.std.specs.Prelude.{◌≡◌, true, IfOk, OnErr};
 ghost use Rattle.calls.specs.Marked.{form_of};
 ghost use Rattle.calls.specs.Runs.{start, open_answer, built_answer, answer, after};
 ghost use Rattle.book.specs.Books.{open_marked, built_marked};
 ghost use Rattle.calls.specs.Called.{called};
-ghost use Rattle.replay.specs.Said.{said};
+ghost use Rattle.replay.specs.Said.{said, asks_report};
 ghost use Rattle.replay.specs.Under.{under};
 ghost use Rattle.replay.specs.Worlds.{open_world, built_world, world};
 
@@ -36,6 +36,7 @@ fn call_built(
 ) -> (HeldBook, Result<Answer, AllocError>)
     ensures answer { IfOk result.1 (λ a. said a ≡ built_answer (under layers (form_of (built_marked book))) (called call.entry)) }
     ensures after { world result.0 ≡ after (built_world book) (called call.entry) }
+    ensures memory { OnErr result.1 (asks_report (called call.entry) ≡ true) }
 {
     if let Call::Reopen = call {
         return (HeldBook::Open(book.reopen()), Ok(Answer::Done));
@@ -62,6 +63,8 @@ impl HeldBook {
     ) -> (HeldBook, Result<Answer, AllocError>)
         ensures answer { IfOk result.1 (λ a. said a ≡ answer (under layers) (world self) (called call.entry)) }
         ensures after { world result.0 ≡ after (world self) (called call.entry) }
+        ensures built { OnErr result.1 ((world self).built ≡ true) }
+        ensures memory { OnErr result.1 (asks_report (called call.entry) ≡ true) }
     {
         match self {
             HeldBook::Open(book) => {

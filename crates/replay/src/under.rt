@@ -1,6 +1,6 @@
-ghost use Rattle.std.specs.Prelude.{◌≡◌, IfOk};
+ghost use Rattle.std.specs.Prelude.{◌≡◌, true, IfOk, OnErr};
 ghost use Rattle.calls.specs.Called.{called};
-ghost use Rattle.replay.specs.Said.{said, asked_answer};
+ghost use Rattle.replay.specs.Said.{said, asked_answer, asks_report};
 ghost use Rattle.replay.specs.Under.{under};
 
 use super::answer::Answer;
@@ -26,7 +26,8 @@ pub(crate) fn ask_under<K: Keyed>(
     form: &K,
     call: Call<'_>,
 ) -> Result<Answer, AllocError>
-    ensures { IfOk result (λ a. said a ≡ asked_answer (under layers (K.FormSource.form form.now)) (called call.entry)) }
+    ensures answer { IfOk result (λ a. said a ≡ asked_answer (under layers (K.FormSource.form form.now)) (called call.entry)) }
+    ensures memory { OnErr result (asks_report (called call.entry) ≡ true) }
 {
     match layers {
         Layers::None => ask(heap, form, call),

@@ -6,8 +6,8 @@ use Rattle.replay.specs.Under.{under}
 use Rattle.replay.specs.Worlds.{world}
 use Rattle.replay.proofs.book_held.HeldBook.call.Goals as goal
 
-pub returns-in-Built : goal.returns-in-Built
-returns-in-Built c = record {
-  answer = subst (λ w. IfOk c.call_built.result.1 (λ a. said a ≡ answer (under c.args.layers) (world w) (called c.args.call))) (sym c.in-Built.is) c.call_built.ensures.answer;
-  after = c.call_built.ensures.after ∙ ap (λ w. after (world w) (called c.args.call)) (sym c.in-Built.is);
-}
+pub returns-in-Built-clause-answer : goal.returns-in-Built-clause-answer
+returns-in-Built-clause-answer c = subst (λ w. IfOk c.call_built.result.1 (λ a. said a ≡ answer (under c.args.layers) (world w) (called c.args.call))) (sym c.in-Built.is) c.call_built.ensures.answer
+
+pub returns-in-Built-clause-after : goal.returns-in-Built-clause-after
+returns-in-Built-clause-after c = c.call_built.ensures.after ∙ ap (λ w. after (world w) (called c.args.call)) (sym c.in-Built.is)
