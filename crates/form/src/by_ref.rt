@@ -63,7 +63,7 @@ impl<K: Keyed> Keyed for &K {
         (**self).key_count()
     }
 
-    fn key(&self, i: usize) -> Option<Key<'_>> {
+    fn key(&self, i: usize) -> Option<Key<&[u8]>> {
         (**self).key(i)
     }
 }

@@ -23,4 +23,4 @@ pub use names::letter;
 pub use range::ValueRange;
 pub use refusal::{LetterFault, NameFault, RangeFault, Refusal};
 pub use source::{FormSource, Keyed};
-pub use views::{ArgView, GroupView, Key, KeyType, SubcommandView};
+pub use views::{ArgOf, ArgView, GroupView, Key, KeyType, SubcommandOf, SubcommandView};

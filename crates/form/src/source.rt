@@ -68,6 +68,6 @@ pub trait Keyed: FormSource {
         ensures { result ≡ length (keys_of (Self.FormSource.form self.now)) };
 
     /// A key, or none past the last.
-    fn key(&self, i: usize) -> Option<Key<'_>>
+    fn key(&self, i: usize) -> Option<Key<&[u8]>>
         ensures { option_map shown_key result ≡ slice_get (keys_of (Self.FormSource.form self.now)) i };
 }

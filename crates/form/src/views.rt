@@ -6,11 +6,11 @@ use super::action::ArgAction;
 use super::arg_settings::ArgFlags;
 use super::range::ValueRange;
 
-/// An argument's record, as a source shows it: its names are parts of the source.
+/// An argument's record, with its names held as `N`.
 #[derive(Clone, Copy)]
-pub struct ArgView<'a> {
-    pub id: &'a [u8],
-    pub long: Option<&'a [u8]>,
+pub struct ArgOf<N> {
+    pub id: N,
+    pub long: Option<N>,
     pub letter: Option<char>,
     pub index: Option<u16>,
     pub settings: ArgFlags,
@@ -18,6 +18,9 @@ pub struct ArgView<'a> {
     pub terminated: bool,
     pub range: Option<ValueRange>,
 }
+
+/// An argument's record, as a source shows it: its names are parts of the source.
+pub type ArgView<'a> = ArgOf<&'a [u8]>;
 
 impl<'a> ArgView<'a> {
     /// An argument of that id, otherwise blank: action Set, and none, no or unset for the rest.
@@ -43,13 +46,16 @@ pub struct GroupView<'a> {
     pub id: &'a [u8],
 }
 
-/// A subcommand's record.
+/// A subcommand's record, with its names held as `N`.
 #[derive(Clone, Copy)]
-pub struct SubcommandView<'a> {
-    pub name: &'a [u8],
-    pub long: Option<&'a [u8]>,
+pub struct SubcommandOf<N> {
+    pub name: N,
+    pub long: Option<N>,
     pub letter: Option<char>,
 }
+
+/// A subcommand's record, as a source shows it.
+pub type SubcommandView<'a> = SubcommandOf<&'a [u8]>;
 
 impl<'a> SubcommandView<'a> {
     /// A subcommand of that name, without flags.
@@ -64,17 +70,17 @@ impl<'a> SubcommandView<'a> {
     }
 }
 
-/// What an argument is found by.
+/// What an argument is found by, with long names held as `N`.
 #[derive(Clone, Copy)]
-pub enum KeyType<'a> {
+pub enum KeyType<N> {
     Position(u16),
     Short(char),
-    Long(&'a [u8]),
+    Long(N),
 }
 
 /// A key, with the place of its argument.
 #[derive(Clone, Copy)]
-pub struct Key<'a> {
-    pub name: KeyType<'a>,
+pub struct Key<N> {
+    pub name: KeyType<N>,
     pub place: usize,
 }
