@@ -1,5 +1,5 @@
 use super::shown::*;
-use console::{say_plain_breach, say_report};
+use console::{Style, say_plain_breach, say_report};
 use form::AppFlags;
 use report::{first, report};
 use rules::Breach;
@@ -10,9 +10,7 @@ use table::TableForm;
 // a breach in plain notation
 fn plain(heap: Global, breach: &Breach) -> Result<String, Fail> {
     let mut out = String::new(heap);
-    let Ok(()) = say_plain_breach(&mut out, breach) else {
-        return Err(Fail::new("no room for the text"));
-    };
+    say_plain_breach(&mut out, breach)?;
     Ok(out)
 }
 
@@ -21,7 +19,7 @@ fn a_short_list_is_refused_and_left_as_it_was(rt: HostRuntime) -> Result<(), Fai
     let heap = rt.alloc();
     let args = [row(option(b"-a")), row(option(b"-b"))];
     let form = TableForm::of_args(AppFlags::from_bits(0), &args);
-    let mut list = [BLANK; 1];
+    let mut list = [Breach::UNUSED; 1];
     match report(&form, &mut list) {
         Ok(_) => return Err(Fail::new("two breaches are put into a list of one")),
         Err(fault) => assert_eq!(rt; fault.needed, 2),
@@ -35,15 +33,13 @@ fn a_short_list_is_refused_and_left_as_it_was(rt: HostRuntime) -> Result<(), Fai
 fn a_long_list_keeps_its_rest(rt: HostRuntime) -> Result<(), Fail> {
     let args = [row(option(b"-a")), row(option(b"-b"))];
     let form = TableForm::of_args(AppFlags::from_bits(0), &args);
-    let mut list = [BLANK; 3];
+    let mut list = [Breach::UNUSED; 3];
     match report(&form, &mut list) {
         Ok(count) => assert_eq!(rt; count, 2),
         Err(_) => return Err(Fail::new("a list of three is refused")),
     }
     let mut out = String::new(rt.alloc());
-    let Ok(()) = say_report(&mut out, &form, &list, true) else {
-        return Err(Fail::new("no room for the text"));
-    };
+    say_report(&mut out, &form, &list, Style::Plain)?;
     assert_eq!(rt;
         out.as_str(),
         "breaches 3\n18 a0 - 0 0 0\n18 a1 - 0 0 0\n51 - - 0 0 0\n"
@@ -55,9 +51,7 @@ fn a_long_list_keeps_its_rest(rt: HostRuntime) -> Result<(), Fail> {
 fn first_is_the_first_breach_of_the_report(rt: HostRuntime) -> Result<(), Fail> {
     let args = [row(option(b"a")), row(option(b"-b")), row(option(b"-c"))];
     let form = TableForm::of_args(AppFlags::from_bits(0), &args);
-    let Some(breach) = first(&form) else {
-        return Err(Fail::new("no breach is found"));
-    };
+    let breach = first(&form).ok_or("no breach is found")?;
     let text = plain(rt.alloc(), &breach)?;
     assert_eq!(rt; text.as_str(), "18 a1 - 0 0 0\n");
     let args = [row(option(b"a"))];

@@ -47,9 +47,7 @@ fn told_arg<F: FormSource>(heap: Global, form: &F, place: usize) -> Result<Strin
     let mut out = String::new(heap);
     let letter = form.arg(place).letter.unwrap_or('-');
     let code = form.arg(place).action.code();
-    let Ok(()) = write!(out, "{} {letter} {code}", Text::new(form.arg(place).id)) else {
-        return Err(Fail::new("no room for the text"));
-    };
+    write!(out, "{} {letter} {code}", Text::new(form.arg(place).id))?;
     Ok(out)
 }
 

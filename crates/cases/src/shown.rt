@@ -1,20 +1,10 @@
-use console::say_report;
+use console::say_plain_report;
 use form::{AppFlags, ArgAction, ArgFlags, ArgView, FormSource, ValueRange};
 use report::report;
-use rules::{Breach, Rule};
+use rules::Breach;
 use std::alloc::Global;
 use std::test::Fail;
 use table::{ArgRow, GroupRow, SubcommandRow, TableForm};
-
-// what stands in a list before a report fills it
-pub(crate) const BLANK: Breach = Breach {
-    rule: Rule::FormCut,
-    first: None,
-    second: None,
-    list: None,
-    item: 0,
-    other: 0,
-};
 
 // settings of an argument
 pub(crate) const REQUIRED: u16 = 1;
@@ -31,17 +21,13 @@ pub(crate) const SOUND: &str = "breaches 0\n";
 
 // the report of a form in plain notation
 pub(crate) fn told<F: FormSource>(heap: Global, form: &F) -> Result<String, Fail> {
-    let mut list = [BLANK; 64];
-    let Ok(count) = report(form, &mut list) else {
-        return Err(Fail::new("more than 64 breaches"));
-    };
+    let mut list = [Breach::UNUSED; 64];
+    let count = report(form, &mut list).map_err(|_| Fail::new("more than 64 breaches"))?;
+    let breaches = list
+        .get(0..count)
+        .ok_or("more breaches than the list holds")?;
     let mut out = String::new(heap);
-    let Some(breaches) = list.get(0..count) else {
-        return Err(Fail::new("more breaches than the list holds"));
-    };
-    let Ok(()) = say_report(&mut out, form, breaches, true) else {
-        return Err(Fail::new("no room for the text"));
-    };
+    say_plain_report(&mut out, breaches)?;
     Ok(out)
 }
 
