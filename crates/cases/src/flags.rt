@@ -161,8 +161,8 @@ static BYTES: [u8; 80] = [
 // as many arguments as a form can hold, no two alike
 fn eighty() -> [ArgRow<'static>; 80] {
     let mut args = [row(option(b"a")); 80];
-    for i in 0..80usize {
-        args[i] = row(option(&BYTES[i..i + 1]));
+    for (arg, name) in args.iter_mut().zip(BYTES.windows(1)) {
+        *arg = row(option(name));
     }
     args
 }
