@@ -67,7 +67,7 @@ pub fn is_many(arg: &ArgView<'_>) -> bool
 pub fn is_multiple(arg: &ArgView<'_>) -> bool
     ensures { result ≡ rows.multiple (seen arg.now) }
 {
-    is_many(arg) || arg.action.code() == ArgAction::Append.code()
+    is_many(arg) || arg.action == ArgAction::Append
 }
 
 /// Whether it takes no values.
@@ -80,7 +80,7 @@ pub fn takes_none(arg: &ArgView<'_>) -> bool
 pub fn is_version(arg: &ArgView<'_>) -> bool
     ensures { result ≡ rows.is_version (seen arg.now) }
 {
-    arg.action.code() == ArgAction::Version.code()
+    arg.action == ArgAction::Version
 }
 
 pub fn too_many_values(arg: &ArgView<'_>) -> bool

@@ -3,10 +3,12 @@ ghost use Rattle.std.specs.Str.{bytes_eq};
 ghost use Rattle.rules.specs.Order.{when};
 ghost use Rattle.rules.specs.Rows.{same_if};
 ghost use Rattle.rules.specs.declared.breach.Breach.{Breach};
+ghost use Rattle.sinks.specs.Flow.{flow};
 ghost use Rattle.sinks.specs.Alike.{Equivalence, numbers_same, marks_same, names_same, between};
 
 use super::sink::Sink;
 use rules::Breach;
+use std::ops::ControlFlow;
 
 /// Values of which two can be the same.
 pub trait Same {
@@ -84,20 +86,20 @@ pub fn offer_same<R: Row, S: Sink>(
     from: usize,
     to: usize,
     sink: &mut S,
-) -> bool
+) -> ControlFlow<()>
     ensures took { S.Sink.after sink.old (between (λ j. when (R.Row.twin row.now sought j) (R.Row.tells row.now j)) from to) sink.new }
-    ensures goes { result ≡ not (S.Sink.full sink.new) }
+    ensures goes { result ≡ flow (S.Sink.full sink.new) }
 {
     let Some(x) = sought else {
-        return !sink.is_full();
+        return sink.go_on();
     };
     for place in from..to {
         let Some(y) = row.at(place) else {
             continue;
         };
-        if x.is_same(&y) && !sink.offer(row.tell(place)) {
-            return false;
+        if x.is_same(&y) {
+            sink.offer(row.tell(place))?;
         }
     }
-    !sink.is_full()
+    sink.go_on()
 }
