@@ -40,12 +40,11 @@ pub fn offer_same<R: Row, S: Sink>(
     ensures took { S.Sink.after sink.old (between (λ j. when (R.Row.twin row.now sought j) (R.Row.tells row.now j)) from to) sink.new }
     ensures goes { result ≡ flow (S.Sink.full sink.new) }
 {
-    let Some(x) = sought else {
+    if sought.is_none() {
         return sink.go_on();
-    };
+    }
     for place in from..to {
-        let is_twin = row.at(place).is_some_and(|y| x == y);
-        offer_if(is_twin, row.tell(place), sink)?;
+        offer_if(sought == row.at(place), row.tell(place), sink)?;
     }
     sink.go_on()
 }

@@ -100,6 +100,7 @@ impl Sink for First {
 }
 
 /// A sink that fills a list from the front, and leaves the rest of it.
+// A slice that shrinks as it is filled would be no plainer: callers ask for the count.
 #[derive(Drop)]
 pub struct Fill<'a> {
     pub room: &'a mut [Breach],
