@@ -1,8 +1,7 @@
 ghost use Rattle.examples.specs.Forms.{FormExamples};
 
 /// The examples of forms have just the breaches that specs/Forms.antt says.
-pub fn form_examples() -> u8
+pub fn form_examples()
     ensures { FormExamples }
 {
-    0
 }

@@ -1,10 +1,9 @@
 ghost use Rattle.examples.specs.SmallTypes.{SmallTypes};
 
 /// The examples of ranges and names hold; see specs/SmallTypes.antt.
-pub fn small_types() -> u8
+pub fn small_types()
     ensures { SmallTypes }
 {
-    0
 }
 
 #[cfg(test)]

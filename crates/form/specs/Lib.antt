@@ -1,6 +1,7 @@
 pub mod Refusals
 pub mod Names
 pub mod NameBytes
+pub mod SameName
 pub mod Model
 pub mod Ranges
 pub mod Bounds
@@ -8,6 +9,7 @@ pub mod Actions
 pub mod Settings
 pub mod Lists
 pub mod Keys
+pub mod SameKey
 pub mod Shown
 pub mod Limits
 pub mod Blank

@@ -1,5 +1,6 @@
 -- The refusals and their numbers.
 use Rattle.std.specs.Prelude.{ℕ}
+use Rattle.form.specs.declared.refusal.NoSuchCode.{NoSuchCode}
 use Rattle.form.specs.declared.refusal.Refusal.{Refusal}
 use Rattle.form.specs.declared.refusal.Refusal.TheVariants.{RangeOrder, NameLength, NoScalar, TableFull, MarksSpent, NoSuchMark, WrongList, RowsTaken, ListShort, NoSuchKey, NoTrailer, BodyTooLong, WrongLength, UnknownCode, ItemFirst, BeyondLimits}
 
@@ -21,3 +22,7 @@ refusal_number WrongLength = 113
 refusal_number UnknownCode = 114
 refusal_number ItemFirst = 115
 refusal_number BeyondLimits = 116
+
+-- the fault of a number that no case has
+abbrev pub no_such_code : NoSuchCode
+no_such_code = record {}

@@ -1,5 +1,6 @@
 -- Settings are numbers whose bits have names.
-use Rattle.std.specs.Prelude.{ℕ, ◌/◌, ◌%◌, ◌^◌, Bool, ◌==◌}
+use Rattle.std.specs.Prelude.{ℕ, ◌/◌, ◌%◌, ◌^◌, ◌<◌, Bool, ◌==◌}
+use Rattle.std.proofs.Common.{arith}
 use Rattle.form.specs.declared.arg_settings.ArgSettings.{ArgSettings}
 use Rattle.form.specs.declared.arg_settings.ArgSettings.TheVariants.{Required, Global, Hidden, NextLineHelp, HidePossibleValues, AllowHyphenValues, AllowNegativeNumbers, RequireEquals, Last, TrailingVarArg, HideDefaultValue, IgnoreCase}
 use Rattle.form.specs.declared.app_settings.AppSettings.{AppSettings}
@@ -42,9 +43,37 @@ arg_set n s = bit n (arg_bit s)
 abbrev pub app_set : ℕ → AppSettings → Bool
 app_set n s = bit n (app_bit s)
 
--- what is kept of any number given as settings: the named bits, 0 to 11 of an argument's and 0 to 6 of a form's
+-- what is kept of any number given as settings, where bits 0 to n - 1 have a name
+abbrev pub kept : ℕ → ℕ → ℕ
+kept n bits = bits % 2 ^ n
+
+-- the named bits: 0 to 11 of an argument's and 0 to 6 of a form's
 abbrev pub arg_kept : ℕ → ℕ
 arg_kept n = n % 2 ^ 12
 
 abbrev pub app_kept : ℕ → ℕ
 app_kept n = n % 2 ^ 7
+
+-- each bit is one of 16
+pub arg_bit_within : (s : ArgSettings) → arg_bit s < 16
+arg_bit_within Required = omega arith
+arg_bit_within Global = omega arith
+arg_bit_within Hidden = omega arith
+arg_bit_within NextLineHelp = omega arith
+arg_bit_within HidePossibleValues = omega arith
+arg_bit_within AllowHyphenValues = omega arith
+arg_bit_within AllowNegativeNumbers = omega arith
+arg_bit_within RequireEquals = omega arith
+arg_bit_within Last = omega arith
+arg_bit_within TrailingVarArg = omega arith
+arg_bit_within HideDefaultValue = omega arith
+arg_bit_within IgnoreCase = omega arith
+
+pub app_bit_within : (s : AppSettings) → app_bit s < 16
+app_bit_within Multicall = omega arith
+app_bit_within NoBinaryName = omega arith
+app_bit_within PropagateVersion = omega arith
+app_bit_within SubcommandsNegateReqs = omega arith
+app_bit_within DisableHelpFlag = omega arith
+app_bit_within DisableVersionFlag = omega arith
+app_bit_within HasVersion = omega arith

@@ -1,8 +1,11 @@
 ghost use Rattle.std.specs.Prelude.{◌≡◌};
 ghost use Rattle.form.specs.Actions.{action_code, action_coded, allowed, default_range};
 ghost use Rattle.form.specs.Bounds.{bounds};
+ghost use Rattle.form.specs.Refusals.{no_such_code};
+ghost use Rattle.std.specs.Option.{ok_or};
 
 use super::range::ValueRange;
+use super::refusal::NoSuchCode;
 
 /// What an argument does where it is met on a command line.
 #[derive(Clone, Copy, PartialEq, Eq)]
@@ -26,24 +29,6 @@ impl ArgAction {
         self as u8
     }
 
-    /// The action of a code, if there is one.
-    pub fn from_code(code: u8) -> Option<ArgAction>
-        ensures { result ≡ action_coded code }
-    {
-        match code {
-            0 => Some(ArgAction::Set),
-            1 => Some(ArgAction::Append),
-            2 => Some(ArgAction::SetTrue),
-            3 => Some(ArgAction::SetFalse),
-            4 => Some(ArgAction::Count),
-            5 => Some(ArgAction::Help),
-            6 => Some(ArgAction::HelpShort),
-            7 => Some(ArgAction::HelpLong),
-            8 => Some(ArgAction::Version),
-            _ => None,
-        }
-    }
-
     /// The numbers of values that the action allows at the widest.
     pub fn max_num_args(self) -> ValueRange
         ensures { bounds result ≡ allowed self }
@@ -62,6 +47,28 @@ impl ArgAction {
         match self {
             ArgAction::Set | ArgAction::Append => ValueRange::SINGLE,
             _ => ValueRange::EMPTY,
+        }
+    }
+}
+
+/// The action of a code, if there is one.
+impl TryFrom<u8> for ArgAction {
+    type Error = NoSuchCode;
+
+    ghost try_from_gives = { λ code r. r ≡ ok_or (action_coded code) no_such_code };
+
+    fn try_from(code: u8) -> Result<ArgAction, NoSuchCode> {
+        match code {
+            0 => Ok(ArgAction::Set),
+            1 => Ok(ArgAction::Append),
+            2 => Ok(ArgAction::SetTrue),
+            3 => Ok(ArgAction::SetFalse),
+            4 => Ok(ArgAction::Count),
+            5 => Ok(ArgAction::Help),
+            6 => Ok(ArgAction::HelpShort),
+            7 => Ok(ArgAction::HelpLong),
+            8 => Ok(ArgAction::Version),
+            _ => Err(NoSuchCode),
         }
     }
 }

@@ -1,5 +1,8 @@
-ghost use Rattle.std.specs.Prelude.{◌≡◌};
-ghost use Rattle.form.specs.Settings.{app_bit, app_set, app_kept};
+ghost use Rattle.std.specs.Prelude.{refl};
+ghost use Rattle.std.proofs.Common.{rules};
+ghost use Rattle.form.specs.Settings.{app_bit, app_bit_within};
+
+use super::flags::{Flags, Setting};
 
 /// The settings of a form, by their bits from 0 on.
 #[derive(Clone, Copy, PartialEq, Eq)]
@@ -13,40 +16,25 @@ pub enum AppSettings {
     HasVersion,
 }
 
-impl AppSettings {
-    /// The bit of the setting.
-    pub fn bit(self) -> u32
-        ensures { result ≡ app_bit self }
-    {
+impl Setting for AppSettings {
+    ghost named = { 7 };
+
+    ghost bit_of = { app_bit };
+
+    ghost COUNT = { 0x80 };
+
+    const COUNT: u16 = 0x80;
+
+    ghost counts = { refl };
+
+    ghost some = { Prim.search rules };
+
+    ghost within = { app_bit_within };
+
+    fn bit(self) -> u32 {
         self as u32
     }
 }
 
 /// The settings that a form has.
-#[derive(Clone, Copy, PartialEq, Eq)]
-pub struct AppFlags {
-    bits: u16,
-}
-
-impl AppFlags {
-    /// The settings of a number's bits; bits that have no name are dropped.
-    pub fn from_bits(bits: u16) -> AppFlags
-        ensures { result.bits ≡ app_kept bits }
-    {
-        AppFlags { bits: bits % 0x80 }
-    }
-
-    /// The number whose bits are the settings.
-    pub fn bits(self) -> u16
-        ensures { result ≡ self.bits }
-    {
-        self.bits
-    }
-
-    /// Whether the setting is on.
-    pub fn is_set(self, setting: AppSettings) -> bool
-        ensures { result ≡ app_set self.bits setting }
-    {
-        (self.bits >> setting.bit()) % 2 == 1
-    }
-}
+pub type AppFlags = Flags<AppSettings>;

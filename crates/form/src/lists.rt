@@ -1,5 +1,9 @@
 ghost use Rattle.std.specs.Prelude.{◌≡◌};
 ghost use Rattle.form.specs.Lists.{list_number, list_numbered, list_owner, list_sort};
+ghost use Rattle.form.specs.Refusals.{no_such_code};
+ghost use Rattle.std.specs.Option.{ok_or};
+
+use super::refusal::NoSuchCode;
 
 /// The kinds of entry: a form has a table of each.
 #[derive(Clone, Copy, PartialEq, Eq)]
@@ -59,30 +63,6 @@ impl ItemList {
         self as u8
     }
 
-    /// The list of a number, if there is one.
-    pub fn from_number(number: u8) -> Option<ItemList>
-        ensures { result ≡ list_numbered number }
-    {
-        match number {
-            1 => Some(ItemList::Requires),
-            2 => Some(ItemList::RIfs),
-            3 => Some(ItemList::RIfsAll),
-            4 => Some(ItemList::RUnless),
-            5 => Some(ItemList::RUnlessAll),
-            6 => Some(ItemList::Conflicts),
-            7 => Some(ItemList::Overrides),
-            8 => Some(ItemList::LongAliases),
-            9 => Some(ItemList::LetterAliases),
-            10 => Some(ItemList::Members),
-            11 => Some(ItemList::GroupRequires),
-            12 => Some(ItemList::GroupConflicts),
-            13 => Some(ItemList::SubcommandAliases),
-            14 => Some(ItemList::LongFlagAliases),
-            15 => Some(ItemList::LetterFlagAliases),
-            _ => None,
-        }
-    }
-
     /// The kind of entry that has the list.
     pub fn owner(self) -> EntryKind
         ensures { result ≡ list_owner self }
@@ -103,6 +83,34 @@ impl ItemList {
         match self {
             ItemList::LetterAliases | ItemList::LetterFlagAliases => ItemSort::Letter,
             _ => ItemSort::Name,
+        }
+    }
+}
+
+/// The list of a number, if there is one.
+impl TryFrom<u8> for ItemList {
+    type Error = NoSuchCode;
+
+    ghost try_from_gives = { λ number r. r ≡ ok_or (list_numbered number) no_such_code };
+
+    fn try_from(number: u8) -> Result<ItemList, NoSuchCode> {
+        match number {
+            1 => Ok(ItemList::Requires),
+            2 => Ok(ItemList::RIfs),
+            3 => Ok(ItemList::RIfsAll),
+            4 => Ok(ItemList::RUnless),
+            5 => Ok(ItemList::RUnlessAll),
+            6 => Ok(ItemList::Conflicts),
+            7 => Ok(ItemList::Overrides),
+            8 => Ok(ItemList::LongAliases),
+            9 => Ok(ItemList::LetterAliases),
+            10 => Ok(ItemList::Members),
+            11 => Ok(ItemList::GroupRequires),
+            12 => Ok(ItemList::GroupConflicts),
+            13 => Ok(ItemList::SubcommandAliases),
+            14 => Ok(ItemList::LongFlagAliases),
+            15 => Ok(ItemList::LetterFlagAliases),
+            _ => Err(NoSuchCode),
         }
     }
 }

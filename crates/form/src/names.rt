@@ -1,6 +1,7 @@
-ghost use Rattle.std.specs.Prelude.{◌≡◌, Decides};
+ghost use Rattle.std.specs.Prelude.{◌≡◌};
 ghost use Rattle.form.specs.Names.{name_of, letter_of};
 ghost use Rattle.form.specs.NameBytes.{name_bytes, named};
+ghost use Rattle.form.specs.SameName.{same_name, same_name_per, same_name_equiv};
 
 use super::name::Name;
 use super::refusal::{LetterFault, NameFault};
@@ -35,21 +36,26 @@ impl Name {
         let len = self.len as usize;
         &self.bytes[0..len]
     }
+}
 
-    /// Whether two names have the same bytes.
-    pub fn is_same(&self, other: &Name) -> bool
-        ensures { Decides result (name_bytes self.now ≡ name_bytes other.now) }
-    {
+/// Names are equal where their bytes are; what stands behind the last byte does not count.
+impl PartialEq for Name {
+    ghost eq = { same_name };
+
+    ghost laws = { same_name_per };
+
+    fn eq(&self, other: &Name) -> bool {
         self.as_bytes() == other.as_bytes()
     }
+}
+
+impl Eq for Name {
+    ghost laws = { same_name_equiv };
 }
 
 /// The letter of a code of 32 bits; refused unless the code is a Unicode scalar value.
 pub fn letter(code: u32) -> Result<char, LetterFault>
     ensures { result ≡ letter_of code }
 {
-    match char::from_u32(code) {
-        Some(c) => Ok(c),
-        None => Err(LetterFault::NotScalar),
-    }
+    char::from_u32(code).ok_or(LetterFault::NotScalar)
 }

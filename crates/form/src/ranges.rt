@@ -99,11 +99,7 @@ impl ValueRange {
         ensures value { result ≡ fixed_number (bounds self.now) }
         ensures means { MatchOption result ((n : ℕ) → Only (bounds self.now) n → ⊥) (λ n. Only (bounds self.now) n) }
     {
-        if self.is_fixed() {
-            Some(self.start_inclusive)
-        } else {
-            None
-        }
+        self.is_fixed().then_some(self.start_inclusive)
     }
 
     /// Whether another value is accepted after `current`.

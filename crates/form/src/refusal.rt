@@ -24,6 +24,10 @@ pub enum LetterFault {
     NotScalar,
 }
 
+/// A number that no case of an enum has.
+#[derive(Clone, Copy, PartialEq, Eq)]
+pub struct NoSuchCode;
+
 /// Everything that a call, or the test of a sheet, can be refused for; docs/FORMS.md says when each comes.
 #[derive(Clone, Copy, PartialEq, Eq)]
 pub enum Refusal {
@@ -97,5 +101,13 @@ impl From<LetterFault> for Refusal {
         match fault {
             LetterFault::NotScalar => Refusal::NoScalar,
         }
+    }
+}
+
+impl From<NoSuchCode> for Refusal {
+    ghost from_gives = { λ _ r. r ≡ refusal.UnknownCode };
+
+    fn from(_code: NoSuchCode) -> Refusal {
+        Refusal::UnknownCode
     }
 }

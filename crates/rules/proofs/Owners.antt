@@ -1,10 +1,11 @@
 -- Where the owners of flags stand: the subcommands first, then the arguments.
-use Rattle.std.proofs.Common.{◌≡◌, ℕ, zero, suc, ◌+◌, ◌⊎◌, List, [], ◌∷◌, ◌++◌, length, sym, refl, ap, subst, inl, inr, arith}
+use Rattle.std.proofs.Common.{◌≡◌, ℕ, zero, suc, ◌+◌, ◌⊎◌, List, [], ◌∷◌, ◌++◌, length, sym, refl, subst, inl, inr, arith}
 use Rattle.form.specs.Model.{Arg, Subcommand, Form}
 use Rattle.rules.specs.Order.{Stands, each}
 use Rattle.rules.specs.Words.{Owner, of_subcommand, of_argument, owners}
 use Rattle.rules.specs.Rank.{before_arguments}
 use Rattle.rules.proofs.Spots.{nothing}
+use Rattle.rules.proofs.TidyPlaces.{length_each}
 
 -- what stands in two lists, one after the other
 pub stands_left : {X : Type 0} (xs ys : List X) (i : ℕ) (x : X) → Stands xs i x → Stands (xs ++ ys) i x
@@ -32,10 +33,6 @@ pub stands_each : {A X : Type 0} (g : ℕ → A → X) (n : ℕ) (l : List A) (i
 stands_each g n [] i j a e h = nothing a h
 stands_each {X = X} g n (b ∷ l) zero j a e h = let q : n ≡ j = omega arith in let u : b ≡ a = cc in cc
 stands_each g n (b ∷ l) (suc i) j a e h = stands_each g (suc n) l i j a (omega arith) h
-
-length_each : {A X : Type 0} (g : ℕ → A → X) (n : ℕ) (l : List A) → length (each g n l) ≡ length l
-length_each g n [] = refl
-length_each g n (a ∷ l) = ap suc (length_each g (suc n) l)
 
 -- an owner is a subcommand at its place, or an argument at its place after them
 pub data Owning (f : Form) : ℕ → Owner → Type 0 where

@@ -1,9 +1,9 @@
 -- Of a form with no breach: every argument has a key, each key finds its argument, and what is found has the key.
 use Rattle.std.proofs.Common.{◌≡◌, ℕ, zero, suc, ◌+◌, Bool, true, false, cond, List, [], ◌∷◌, ◌++◌, map, Some, None, Option, sym, refl, ap, subst, inl, inr, arith}
-use Rattle.std.proofs.lemmas.Slice.Eq.{bytes_eq-Decides}
-use Rattle.std.proofs.lemmas.Bool.{both_ways, false≢true, eqb-true, eq-eqb}
+use Rattle.std.proofs.lemmas.Bool.{both_ways}
 use Rattle.form.specs.Model.{Name, Arg, Form}
 use Rattle.form.specs.Keys.{KeyName, position, letter, long, Key, listed, key_names, arg_keys, keys_from, keys_of, same_key, first_key}
+use Rattle.form.specs.SameKey.{same_key_is, same_key_self}
 use Rattle.rules.specs.declared.breach.Breach.{Breach}
 use Rattle.rules.specs.Order.{Stands, Member}
 use Rattle.rules.specs.Words.{Flag, of_argument}
@@ -12,23 +12,6 @@ use Rattle.rules.specs.Tidy.{HasKey}
 use Rattle.rules.proofs.TidyPlaces.{nothing, member_stands, member_left, member_right, member_split, member_map, member_unmap}
 use Rattle.rules.proofs.TidyOwners.{argument_owns, one_long, one_letter}
 use Rattle.rules.proofs.TidyPositions.{one_index}
-
--- the test of keys is equality
-same_key_is : (k l : KeyName) → same_key k l ≡ true → k ≡ l
-same_key_is (position m) (position n) e = ap position (eqb-true m n e)
-same_key_is (position m) (letter n) e = absurd (false≢true e)
-same_key_is (position m) (long y) e = absurd (false≢true e)
-same_key_is (letter m) (position n) e = absurd (false≢true e)
-same_key_is (letter m) (letter n) e = ap letter (eqb-true m n e)
-same_key_is (letter m) (long y) e = absurd (false≢true e)
-same_key_is (long x) (position n) e = absurd (false≢true e)
-same_key_is (long x) (letter n) e = absurd (false≢true e)
-same_key_is (long x) (long y) e = ap long ((bytes_eq-Decides x y).0 e)
-
-same_key_self : (k : KeyName) → same_key k k ≡ true
-same_key_self (position m) = eq-eqb m m refl
-same_key_self (letter m) = eq-eqb m m refl
-same_key_self (long x) = (bytes_eq-Decides x x).1 refl
 
 abbrev beside : KeyName → ℕ → Key
 beside k p = record { name = k; place = p }

@@ -21,3 +21,15 @@ pub struct Breach {
     /// of the second entry
     pub other: usize,
 }
+
+impl Breach {
+    /// What stands in a place of a list that no report has filled.
+    pub const UNUSED: Breach = Breach {
+        rule: Rule::FormCut,
+        first: None,
+        second: None,
+        list: None,
+        item: 0,
+        other: 0,
+    };
+}

@@ -2,22 +2,16 @@
 ghost use Rattle.rules.specs.Laws.{ReportLists, OneList, MovedLaw};
 
 /// The computed report lists the breaches of a form: every one, nothing else, each once, in order.
-pub fn report_lists() -> u8
+pub fn report_lists()
     ensures { ReportLists }
-{
-    0
-}
+{}
 
 /// A form has one list of its breaches.
-pub fn one_list() -> u8
+pub fn one_list()
     ensures { OneList }
-{
-    0
-}
+{}
 
 /// A breach of an own or a pair rule goes with the entries that it names.
-pub fn moved_law() -> u8
+pub fn moved_law()
     ensures { MovedLaw }
-{
-    0
-}
+{}
