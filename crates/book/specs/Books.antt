@@ -28,5 +28,5 @@ pub built_fits : (b : BuiltBook) → Fits (built_form b)
 built_fits b = book_fits b.tables
 
 -- the keys that it stores are those of its form
-pub built_keys : (b : BuiltBook) → map key_held (vec_items b.keys) ≡ keys_of (built_form b)
-built_keys b = keys_same (map key_held (vec_items b.keys)) (keys_of (built_form b)) b.keyed
+pub built_keys : (b : BuiltBook) → map key_held (vec_items b.keys.list) ≡ keys_of (built_form b)
+built_keys b = keys_same (map key_held (vec_items b.keys.list)) (keys_of (built_form b)) b.keyed

@@ -3,7 +3,7 @@ use Rattle.std.proofs.Common.{◌≡◌, ℕ, zero, suc, Bool, true, false, cond
 use Rattle.std.specs.List.{slice_get}
 use Rattle.std.specs.Option.{option_map}
 use Rattle.std.proofs.lemmas.List.{length-map}
-use Rattle.form.specs.Model.{blank_arg, blank_group, blank_subcommand}
+use Rattle.form.specs.Model.{Name, blank_arg, blank_group, blank_subcommand}
 use Rattle.form.specs.Lists.{list_sort, names_at, letters_at}
 use Rattle.form.specs.declared.lists.ItemSort.TheVariants as sort
 use Rattle.form.specs.declared.lists.ItemList.{ItemList}
@@ -25,7 +25,7 @@ kept_of {X} {Y} {Z} f p g (x ∷ xs) =
 pub items_counted : (k : ℕ) (l : ItemList) (rs : List ItemRow) → length (items_of k l (map row_held rs)) ≡ length (filter (λ r. row_adds k l (row_held r)) rs)
 items_counted k l rs = ap length (kept_of row_held (row_adds k l) (λ r. r.item) rs) ∙ length-map (filter (λ r. row_adds k l (row_held r)) rs) _
 
-got_of : {X Y : Type 0} (f : X → Y) (xs : List X) (n : ℕ) → slice_get (map f xs) n ≡ option_map f (slice_get xs n)
+pub got_of : {X Y : Type 0} (f : X → Y) (xs : List X) (n : ℕ) → slice_get (map f xs) n ≡ option_map f (slice_get xs n)
 got_of f [] n = refl
 got_of f (x ∷ xs) zero = refl
 got_of f (x ∷ xs) (suc n) = got_of f xs n
@@ -44,34 +44,58 @@ none_found f d [] n is = refl
 none_found f d (y ∷ xs) zero is = absurd (let z : ◌≡◌ {A = ℕ} 0 1 = cc in omega arith)
 none_found f d (y ∷ xs) (suc n) is = none_found f d xs n is
 
--- the names that the rows have for a list are its items, and so are the letters
-one_name : (t : Bool) (x : ItemOf) (xs : List ItemOf) → cond t (with_name x (map named xs)) (map named xs) ≡ map named (cond (t && same_sort sort.Name (sort_of x)) (x ∷ xs) xs)
-one_name true (name_item x) xs = refl
-one_name true (letter_item c) xs = refl
-one_name false x xs = refl
+-- the entry of a form at a place, and what is blank past the end
+pub entry_at : {X Y Z : Type 0} (f : X → Y) (g : Y → Z) (d : Z) (xs : List X) (n : ℕ) (x : X) → Some x ≡ slice_get xs n → g (f x) ≡ get_or (map g (map f xs)) n d
+entry_at f g d [] n x is = absurd (let z : ◌≡◌ {A = ℕ} 0 1 = cc in omega arith)
+entry_at f g d (y ∷ xs) zero x is = let e : x ≡ y = cc in ap (λ z. g (f z)) e
+entry_at f g d (y ∷ xs) (suc n) x is = entry_at f g d xs n x is
 
-one_letter : (t : Bool) (x : ItemOf) (xs : List ItemOf) → cond t (with_letter x (map lettered xs)) (map lettered xs) ≡ map lettered (cond (t && same_sort sort.Letter (sort_of x)) (x ∷ xs) xs)
-one_letter true (name_item x) xs = refl
-one_letter true (letter_item c) xs = refl
-one_letter false x xs = refl
+pub past_entries : {X Y Z : Type 0} (f : X → Y) (g : Y → Z) (d : Z) (xs : List X) (n : ℕ) → None ≡ slice_get xs n → d ≡ get_or (map g (map f xs)) n d
+past_entries f g d [] n is = refl
+past_entries f g d (y ∷ xs) zero is = absurd (let z : ◌≡◌ {A = ℕ} 0 1 = cc in omega arith)
+past_entries f g d (y ∷ xs) (suc n) is = past_entries f g d xs n is
 
+-- what is seen of the names that the rows have for a list is seen of its items, and so with letters
 more_items : (k : ℕ) (l : ItemList) (r : Row) (rs : List Row) → items_of k l (r ∷ rs) ≡ cond (row_adds k l r) (r.item ∷ items_of k l rs) (items_of k l rs)
 more_items k l r rs =
     elim (row_adds k l r) as (λ t. map (λ r. r.item) (cond t (r ∷ filter (row_adds k l) rs) (filter (row_adds k l) rs)) ≡ cond t (r.item ∷ items_of k l rs) (items_of k l rs)) [ true ↦ refl | false ↦ refl ]
 
-pub names_items : (k : ℕ) (l : ItemList) (rs : List Row) → list_sort l ≡ sort.Name → names_in k l rs ≡ map named (items_of k l rs)
-unfolding names_in
-names_items k l [] is = refl
-names_items k l (r ∷ rs) is =
-    let adds : row_adds k l r ≡ (is_of k l r && same_sort sort.Name (sort_of r.item)) = ap (λ s. is_of k l r && same_sort s (sort_of r.item)) is in
-    rw (names_items k l rs is) (one_name (is_of k l r) r.item (items_of k l rs) ∙ ap (map named) (ap (λ t. cond t (r.item ∷ items_of k l rs) (items_of k l rs)) (sym adds) ∙ sym (more_items k l r rs)))
+module _ {X : Type 0} (see : ItemOf → X) where
+  one_name : (t : Bool) (x : ItemOf) (ns : List Name) (is : List ItemOf) → map (λ x. see (name_item x)) ns ≡ map see is
+      → map (λ x. see (name_item x)) (cond t (with_name x ns) ns) ≡ map see (cond (t && same_sort sort.Name (sort_of x)) (x ∷ is) is)
+  one_name true (name_item x) ns is e = ap (λ l. see (name_item x) ∷ l) e
+  one_name true (letter_item c) ns is e = e
+  one_name false x ns is e = e
 
-pub letters_items : (k : ℕ) (l : ItemList) (rs : List Row) → list_sort l ≡ sort.Letter → letters_in k l rs ≡ map lettered (items_of k l rs)
-unfolding letters_in
-letters_items k l [] is = refl
-letters_items k l (r ∷ rs) is =
-    let adds : row_adds k l r ≡ (is_of k l r && same_sort sort.Letter (sort_of r.item)) = ap (λ s. is_of k l r && same_sort s (sort_of r.item)) is in
-    rw (letters_items k l rs is) (one_letter (is_of k l r) r.item (items_of k l rs) ∙ ap (map lettered) (ap (λ t. cond t (r.item ∷ items_of k l rs) (items_of k l rs)) (sym adds) ∙ sym (more_items k l r rs)))
+  pub names_seen : (k : ℕ) (l : ItemList) (rs : List Row) → list_sort l ≡ sort.Name → map (λ x. see (name_item x)) (names_in k l rs) ≡ map see (items_of k l rs)
+  unfolding names_in
+  names_seen k l [] is = refl
+  names_seen k l (r ∷ rs) is =
+      let adds : row_adds k l r ≡ (is_of k l r && same_sort sort.Name (sort_of r.item)) = ap (λ s. is_of k l r && same_sort s (sort_of r.item)) is in
+      one_name (is_of k l r) r.item _ _ (names_seen k l rs is) ∙ ap (map see) (ap (λ t. cond t (r.item ∷ items_of k l rs) (items_of k l rs)) (sym adds) ∙ sym (more_items k l r rs))
+
+  one_letter : (t : Bool) (x : ItemOf) (cs : List ℕ) (is : List ItemOf) → map (λ c. see (letter_item c)) cs ≡ map see is
+      → map (λ c. see (letter_item c)) (cond t (with_letter x cs) cs) ≡ map see (cond (t && same_sort sort.Letter (sort_of x)) (x ∷ is) is)
+  one_letter true (name_item x) cs is e = e
+  one_letter true (letter_item c) cs is e = ap (λ l. see (letter_item c) ∷ l) e
+  one_letter false x cs is e = e
+
+  pub letters_seen : (k : ℕ) (l : ItemList) (rs : List Row) → list_sort l ≡ sort.Letter → map (λ c. see (letter_item c)) (letters_in k l rs) ≡ map see (items_of k l rs)
+  unfolding letters_in
+  letters_seen k l [] is = refl
+  letters_seen k l (r ∷ rs) is =
+      let adds : row_adds k l r ≡ (is_of k l r && same_sort sort.Letter (sort_of r.item)) = ap (λ s. is_of k l r && same_sort s (sort_of r.item)) is in
+      one_letter (is_of k l r) r.item _ _ (letters_seen k l rs is) ∙ ap (map see) (ap (λ t. cond t (r.item ∷ items_of k l rs) (items_of k l rs)) (sym adds) ∙ sym (more_items k l r rs))
+
+itself : {X : Type 0} (xs : List X) → map (λ x. x) xs ≡ xs
+itself [] = refl
+itself (x ∷ xs) = ap (λ l. x ∷ l) (itself xs)
+
+names_items : (k : ℕ) (l : ItemList) (rs : List Row) → list_sort l ≡ sort.Name → names_in k l rs ≡ map named (items_of k l rs)
+names_items k l rs is = sym (itself (names_in k l rs)) ∙ names_seen named k l rs is
+
+letters_items : (k : ℕ) (l : ItemList) (rs : List Row) → list_sort l ≡ sort.Letter → letters_in k l rs ≡ map lettered (items_of k l rs)
+letters_items k l rs is = sym (itself (letters_in k l rs)) ∙ letters_seen lettered k l rs is
 
 -- a list of the entry at a place: the items under the mark there
 at_mark : {X E N : Type 0} (entry : Marked X → E) (es : List (Marked X)) (p : ℕ) (d : E) (list : E → List N) (see : ItemOf → N) (items : ℕ → List ItemOf)

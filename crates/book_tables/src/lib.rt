@@ -15,9 +15,7 @@ mod sweep;
 mod table;
 mod tables;
 mod taken;
-mod views;
 
 pub use held::{Held, HeldItem, ItemRow};
 pub use table::Table;
 pub use tables::Tables;
-pub use views::{arg_view, subcommand_view};

@@ -20,7 +20,7 @@ impl<T, const N: usize> Table<Held<T>, N> {
     pub(crate) fn mark_at(&self, place: usize) -> Option<u16>
         ensures { result ≡ slice_get (marks self.now.list.items) place }
     {
-        self.as_slice().get(place).map(|entry| entry.mark)
+        self.get(place).map(|entry| entry.mark)
     }
 }
 

@@ -1,4 +1,6 @@
 ghost use Rattle.std.specs.Prelude.{◌≡◌, ◌<◌, ◌≤◌, [], ◌∷◌, ◌++◌, length, vec_len, vec_capacity, nat_le, IfOk};
+ghost use Rattle.std.specs.Option.{option_map};
+ghost use Rattle.std.specs.List.{slice_get};
 
 use std::alloc::{AllocError, Global};
 
@@ -19,10 +21,18 @@ impl<T, const N: usize> Table<T, N> {
         Ok(Table { list })
     }
 
+    /// All that stands there, in order.
     pub fn as_slice(&self) -> &[T]
         ensures { result.now ≡ self.now.list.items }
     {
         self.list.as_slice()
+    }
+
+    /// What stands at the place; none past the end.
+    pub fn get(&self, place: usize) -> Option<&T>
+        ensures { option_map (λ x. x.now) result ≡ slice_get self.now.list.items place }
+    {
+        self.as_slice().get(place)
     }
 
     pub fn len(&self) -> usize
