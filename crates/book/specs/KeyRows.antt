@@ -1,5 +1,5 @@
 -- What the stored keys of a book mean.
-use Rattle.std.specs.Prelude.{ℕ, List}
+use Rattle.std.specs.Prelude.{ℕ}
 use Rattle.form.specs.NameBytes.{name_bytes}
 use Rattle.form.specs.Keys.{KeyName, letter, long, Key}
 use Rattle.form.specs.Shown.{key_told, key_of}

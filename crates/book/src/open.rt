@@ -12,6 +12,7 @@ use calls::{ArgRecord, Item, SubcommandRecord};
 use form::{EntryKind, Refusal, ValueRange};
 use std::alloc::{AllocError, Global};
 
+// Each call is handed on to the tables: through this layer an edit of the tables is tried without the keys.
 impl OpenBook {
     /// An empty book. It reserves all the memory that it will ever need: no later call fails for want of memory.
     pub fn new(heap: Global) -> Result<OpenBook, AllocError>

@@ -4,6 +4,7 @@ use super::states::BuiltBook;
 use form::{AppFlags, ArgView, FormSource, GroupView, ItemList, Key, Keyed, SubcommandView};
 
 /// A built book shows its form; an open one does not.
+#[tactic(auto, using(book_tables::proofs::Places::entry_at, book_tables::proofs::Places::past_entries, book_tables::specs::Fitted::entries_long), unfolding(book_tables::specs::Tables::tables_marked))]
 impl FormSource for BuiltBook {
     ghost form = { built_form };
 
@@ -70,6 +71,7 @@ impl FormSource for BuiltBook {
 }
 
 /// Its keys are stored.
+#[tactic(auto, using(crate::specs::Books::built_keys, crate::specs::Books::key_shown, crate::specs::Books::keys_counted))]
 impl Keyed for BuiltBook {
     fn key_count(&self) -> usize {
         self.keys.len()
