@@ -1,13 +1,12 @@
 -- The first key that is the one sought.
-use Rattle.std.proofs.Common.{◌≡◌, ℕ, zero, suc, ◌+◌, ◌<◌, ◌≤◌, Bool, true, false, cond, List, [], ◌∷◌, length, drop, Some, None, Option, Result, sym, refl, ap, ◌∙◌, add-one, arith, eq-eqb, eqb-true}
-use lib.Seq.{drop-nil}
+use Rattle.std.proofs.Common.{◌≡◌, ℕ, zero, suc, ◌+◌, ◌<◌, ◌≤◌, Bool, true, false, cond, List, [], ◌∷◌, length, drop, Some, None, Option, Result, sym, refl, ap, ◌∙◌, add-one, arith}
 use borrow.Author.Tests.{clash}
 use Rattle.std.specs.Option.{ok_or}
 use Rattle.std.specs.List.{slice_get}
 use Rattle.form.specs.declared.refusal.Refusal.{Refusal}
 use Rattle.std.proofs.lemmas.List.{drop_all}
-use Rattle.std.proofs.lemmas.Slice.Eq.{bytes_eq-Decides}
-use Rattle.form.specs.Keys.{KeyName, position, letter, long, Key, same_key, first_key}
+use Rattle.form.specs.Keys.{KeyName, Key, same_key, first_key}
+use Rattle.form.specs.SameKey.{same_key_is, same_key_self}
 use Rattle.form.specs.declared.refusal.Refusal.TheVariants.{NoSuchKey}
 use Rattle.find.specs.Found.{KeyAt, Found}
 
@@ -22,32 +21,11 @@ first_yes s i ks k b e m t = rw (drop_key i ks k e, ← m, t)
 pub first_no : (s : KeyName) (i : ℕ) (ks : List Key) (k : Key) (b : Bool) → Some k ≡ slice_get ks i → b ≡ same_key s k.name → b ≡ false → first_key s (drop i ks) ≡ first_key s (drop (i + 1) ks)
 first_no s i ks k b e m t = rw (drop_key i ks k e, ← m, t, add-one)
 
-pub first_none : (s : KeyName) (i : ℕ) (ks : List Key) → None ≡ slice_get ks i → first_key s (drop i ks) ≡ None
-first_none s i [] e = rw drop-nil
-first_none s zero (x ∷ ks) e = absurd (let z : ◌≡◌ {A = ℕ} 0 1 = cc in omega arith)
-first_none s (suc i) (x ∷ ks) e = first_none s i ks e
-
 pub first_all : (s : KeyName) (i : ℕ) (ks : List Key) → length ks ≤ i → first_key s (drop i ks) ≡ None
 first_all s i ks h = rw drop_all
 
-same_is : (k l : KeyName) → same_key k l ≡ true → l ≡ k
-same_is (position m) (position n) e = ap position (sym (eqb-true m n e))
-same_is (position m) (letter n) e = absurd (clash e)
-same_is (position m) (long y) e = absurd (clash e)
-same_is (letter m) (position n) e = absurd (clash e)
-same_is (letter m) (letter n) e = ap letter (sym (eqb-true m n e))
-same_is (letter m) (long y) e = absurd (clash e)
-same_is (long x) (position n) e = absurd (clash e)
-same_is (long x) (letter n) e = absurd (clash e)
-same_is (long x) (long y) e = ap long (sym ((bytes_eq-Decides x y).0 e))
-
-same_self : (k : KeyName) → same_key k k ≡ true
-same_self (position m) = eq-eqb m m refl
-same_self (letter m) = eq-eqb m m refl
-same_self (long x) = (bytes_eq-Decides x x).1 refl
-
 is_same : (k l : KeyName) → l ≡ k → same_key k l ≡ true
-is_same k l e = rw e (same_self k)
+is_same k l e = rw e (same_key_self k)
 
 later : (k : KeyName) (x : Key) (ks : List Key) (o : Option ℕ) → (x.name ≡ k → ⊥) → Found k ks (ok_or o NoSuchKey) → Found k (x ∷ ks) (ok_or o NoSuchKey)
 later k x ks None ne f = (refl, none)
@@ -62,7 +40,7 @@ later k x ks (Some p) ne f = (suc f.0, f.1, f.2, f.3, f.4, before)
     before (suc j) d lt h e = f.5 j d (omega arith) h e
 
 here : (k : KeyName) (x : Key) (ks : List Key) (b : Bool) → same_key k x.name ≡ b → Found k ks (ok_or (first_key k ks) NoSuchKey) → Found k (x ∷ ks) (ok_or (cond b (Some x.place) (first_key k ks)) NoSuchKey)
-here k x ks true e f = (0, x, refl, same_is k x.name e, refl, λ j d lt. absurd (omega arith))
+here k x ks true e f = (0, x, refl, sym (same_key_is k x.name e), refl, λ j d lt. absurd (omega arith))
 here k x ks false e f = later k x ks (first_key k ks) (λ q. clash (sym e ∙ is_same k x.name q)) f
 
 found : (k : KeyName) (ks : List Key) → Found k ks (ok_or (first_key k ks) NoSuchKey)

@@ -14,7 +14,7 @@ pub trait KeyKind {
     ghost key: { Self.Sought → KeyName };
 
     /// Whether a key is the one sought; a key of another kind never is.
-    fn matches(name: KeyType<'_>, sought: Self::Sought) -> bool
+    fn matches(name: KeyType<&[u8]>, sought: Self::Sought) -> bool
         ensures { result ≡ same_key (key sought) (key_name name.entry) };
 }
 
@@ -26,11 +26,8 @@ impl KeyKind for ByPosition {
 
     ghost key = { position };
 
-    fn matches(name: KeyType<'_>, sought: u16) -> bool {
-        match name {
-            KeyType::Position(index) => sought == index,
-            _ => false,
-        }
+    fn matches(name: KeyType<&[u8]>, sought: u16) -> bool {
+        matches!(name, KeyType::Position(index) if sought == index)
     }
 }
 
@@ -42,11 +39,8 @@ impl KeyKind for ByLetter {
 
     ghost key = { letter };
 
-    fn matches(name: KeyType<'_>, sought: char) -> bool {
-        match name {
-            KeyType::Short(c) => sought == c,
-            _ => false,
-        }
+    fn matches(name: KeyType<&[u8]>, sought: char) -> bool {
+        matches!(name, KeyType::Short(c) if sought == c)
     }
 }
 
@@ -58,10 +52,7 @@ impl<'a> KeyKind for ByLong<'a> {
 
     ghost key = { λ s. long s.now };
 
-    fn matches(name: KeyType<'_>, sought: &'a [u8]) -> bool {
-        match name {
-            KeyType::Long(x) => sought == x,
-            _ => false,
-        }
+    fn matches(name: KeyType<&[u8]>, sought: &'a [u8]) -> bool {
+        matches!(name, KeyType::Long(x) if sought == x)
     }
 }

@@ -12,10 +12,9 @@ pub fn find<F: Keyed, K: KeyKind>(form: &F, sought: K::Sought) -> Result<usize, 
     ensures value { result ≡ ok_or (first_key (K.KeyKind.key sought) (keys_of (F.FormSource.form form.now))) NoSuchKey }
     ensures means { Found (K.KeyKind.key sought) (keys_of (F.FormSource.form form.now)) result }
 {
+    // not `find_map` over the places: that was tried, and the proof did not close
     for i in 0..form.key_count() {
-        let Some(key) = form.key(i) else {
-            return Err(Refusal::NoSuchKey);
-        };
+        let key = form.key(i).ok_or(Refusal::NoSuchKey)?;
         if K::matches(key.name, sought) {
             return Ok(key.place);
         }

@@ -1,5 +1,6 @@
 pub mod Refusals
 pub mod Names
+pub mod HeldBytes
 pub mod NameBytes
 pub mod SameName
 pub mod Model

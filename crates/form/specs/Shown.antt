@@ -61,5 +61,9 @@ key_told name (Long x) = long (name x)
 abbrev pub key_name : KeyType (Bor (List ℕ)) → KeyName
 key_name k = key_told (λ x. x.now) k
 
+-- a key with its place, where a long name held as N stands for bytes
+abbrev pub key_of : {N : Type 0} → (N → Name) → Key N → keys.Key
+key_of name k = record { name = key_told name k.name; place = k.place }
+
 abbrev pub shown_key : Key (Bor (List ℕ)) → keys.Key
-shown_key k = record { name = key_name k.name; place = k.place }
+shown_key k = key_of (λ x. x.now) k

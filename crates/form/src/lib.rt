@@ -22,7 +22,7 @@ pub use arg_settings::{ArgFlags, ArgSettings};
 pub use flags::{Flags, Setting};
 pub use limits::{MAX_ARGS, MAX_GROUPS, MAX_ITEMS, MAX_SUBCOMMANDS};
 pub use lists::{EntryKind, ItemList, ItemSort};
-pub use name::Name;
+pub use name::{Bytes, Name};
 pub use names::letter;
 pub use range::ValueRange;
 pub use refusal::{LetterFault, NameFault, NoSuchCode, RangeFault, Refusal};

@@ -1,10 +1,16 @@
 ghost use Rattle.std.specs.Prelude.{◌≤◌};
 
-/// A name: 1 to 32 bytes, of any value, held in place.
+/// Up to `N` bytes, of any value, held in place.
+#[derive(Clone, Copy)]
+pub struct Bytes<const N: usize> {
+    pub(crate) items: [u8; N],
+    pub(crate) len: usize,
+    ghost short: { len ≤ N },
+}
+
+/// A name: 1 to 32 bytes.
 #[derive(Clone, Copy)]
 pub struct Name {
-    pub(crate) bytes: [u8; 32],
-    pub(crate) len: u8,
-    ghost some: { 1 ≤ len },
-    ghost short: { len ≤ 32 },
+    pub(crate) bytes: Bytes<32>,
+    ghost some: { 1 ≤ bytes.len },
 }

@@ -1,10 +1,58 @@
-ghost use Rattle.std.specs.Prelude.{◌≡◌};
+ghost use Rattle.std.specs.Prelude.{◌≡◌, [], ◌∷◌, ◌++◌, take, length, if◌then◌else◌, Some, None, nat_le};
+ghost use Rattle.std.specs.Option.{option_map};
+ghost use Rattle.form.specs.HeldBytes.{held_bytes};
 ghost use Rattle.form.specs.Names.{name_of, letter_of};
 ghost use Rattle.form.specs.NameBytes.{name_bytes, named};
 ghost use Rattle.form.specs.SameName.{same_name, same_name_per, same_name_equiv};
 
-use super::name::Name;
+use super::name::{Bytes, Name};
 use super::refusal::{LetterFault, NameFault};
+use std::convert::AsSlice;
+
+impl<const N: usize> Bytes<N> {
+    /// No bytes.
+    pub fn new() -> Bytes<N>
+        ensures { held_bytes result ≡ [] }
+    {
+        Bytes {
+            items: [0; N],
+            len: 0,
+        }
+    }
+
+    /// The same bytes, if there are at most `N`.
+    pub fn copied(bytes: &[u8]) -> Option<Bytes<N>>
+        ensures { option_map held_bytes result ≡ (if nat_le (length bytes.now) N then Some bytes.now else None) }
+    {
+        let len = bytes.len();
+        if len > N {
+            return None;
+        }
+        let mut items = [0; N];
+        let room = &mut items[..];
+        room[0..len].copy_from_slice(bytes);
+        Some(Bytes { items, len })
+    }
+
+    /// One byte more, as far as there is room.
+    pub fn push(&mut self, byte: u8)
+        ensures { held_bytes self.new ≡ take N (held_bytes self.old ++ byte ∷ []) }
+    {
+        if self.len < N {
+            self.items[self.len] = byte;
+            self.len += 1;
+        }
+    }
+}
+
+impl<const N: usize> AsSlice<u8> for Bytes<N> {
+    ghost items = { held_bytes };
+
+    fn as_slice(&self) -> &[u8] {
+        let room = &self.items[..];
+        &room[0..self.len]
+    }
+}
 
 impl Name {
     /// The most bytes of a name.
@@ -14,27 +62,26 @@ impl Name {
     pub fn new(bytes: &[u8]) -> Result<Name, NameFault>
         ensures { named result ≡ name_of bytes.now }
     {
-        let len = bytes.len();
-        if len == 0 {
+        if bytes.is_empty() {
             return Err(NameFault::Empty);
         }
-        if len > Name::MOST {
-            return Err(NameFault::TooLong);
-        }
-        let mut held = [0u8; 32];
-        held[0..len].copy_from_slice(bytes);
-        Ok(Name {
-            bytes: held,
-            len: len as u8,
-        })
+        let bytes = Bytes::copied(bytes).ok_or(NameFault::TooLong)?;
+        Ok(Name { bytes })
     }
 
     /// The bytes of the name.
     pub fn as_bytes(&self) -> &[u8]
         ensures { result.now ≡ name_bytes self.now }
     {
-        let len = self.len as usize;
-        &self.bytes[0..len]
+        self.bytes.as_slice()
+    }
+}
+
+impl AsSlice<u8> for Name {
+    ghost items = { name_bytes };
+
+    fn as_slice(&self) -> &[u8] {
+        self.as_bytes()
     }
 }
 

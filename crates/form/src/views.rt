@@ -1,10 +1,12 @@
 ghost use Rattle.std.specs.Prelude.{◌≡◌};
-ghost use Rattle.form.specs.Shown.{shown, shown_subcommand};
+ghost use Rattle.std.specs.Option.{option_map};
+ghost use Rattle.form.specs.Shown.{shown, told_of, shown_subcommand, told_of_subcommand, key_name, key_told, shown_key, key_of};
 ghost use Rattle.form.specs.Blank.{arg_named, subcommand_named};
 
 use super::action::ArgAction;
 use super::arg_settings::ArgFlags;
 use super::range::ValueRange;
+use std::convert::AsSlice;
 
 /// An argument's record, with its names held as `N`.
 #[derive(Clone, Copy)]
@@ -40,6 +42,31 @@ impl<'a> ArgView<'a> {
     }
 }
 
+impl<N: AsSlice<u8>> ArgOf<N> {
+    /// The record as a source shows it, with the names as parts of this one.
+    pub fn view(&self) -> ArgView<'_>
+        ensures { shown result ≡ told_of N.items self.now }
+    {
+        ArgOf {
+            id: self.id.as_slice(),
+            long: lent(&self.long),
+            letter: self.letter,
+            index: self.index,
+            settings: self.settings,
+            action: self.action,
+            terminated: self.terminated,
+            range: self.range,
+        }
+    }
+}
+
+// the bytes of a name, where there is one
+fn lent<N: AsSlice<u8>>(name: &Option<N>) -> Option<&[u8]>
+    ensures { option_map (λ x. x.now) result ≡ option_map N.items name.now }
+{
+    name.as_ref().map(|name| name.as_slice())
+}
+
 /// A group's record.
 #[derive(Clone, Copy)]
 pub struct GroupView<'a> {
@@ -70,6 +97,19 @@ impl<'a> SubcommandView<'a> {
     }
 }
 
+impl<N: AsSlice<u8>> SubcommandOf<N> {
+    /// The record as a source shows it, with the names as parts of this one.
+    pub fn view(&self) -> SubcommandView<'_>
+        ensures { shown_subcommand result ≡ told_of_subcommand N.items self.now }
+    {
+        SubcommandOf {
+            name: self.name.as_slice(),
+            long: lent(&self.long),
+            letter: self.letter,
+        }
+    }
+}
+
 /// What an argument is found by, with long names held as `N`.
 #[derive(Clone, Copy)]
 pub enum KeyType<N> {
@@ -83,4 +123,29 @@ pub enum KeyType<N> {
 pub struct Key<N> {
     pub name: KeyType<N>,
     pub place: usize,
+}
+
+impl<N: AsSlice<u8>> KeyType<N> {
+    /// What the argument is found by, with the long name as a part of this.
+    pub fn view(&self) -> KeyType<&[u8]>
+        ensures { key_name result ≡ key_told N.items self.now }
+    {
+        match self {
+            KeyType::Position(index) => KeyType::Position(*index),
+            KeyType::Short(letter) => KeyType::Short(*letter),
+            KeyType::Long(name) => KeyType::Long(name.as_slice()),
+        }
+    }
+}
+
+impl<N: AsSlice<u8>> Key<N> {
+    /// The key as a source shows it.
+    pub fn view(&self) -> Key<&[u8]>
+        ensures { shown_key result ≡ key_of N.items self.now }
+    {
+        Key {
+            name: self.name.view(),
+            place: self.place,
+        }
+    }
 }

@@ -4,31 +4,20 @@ use borrow.Author.Tests.{clash}
 use Rattle.std.specs.List.{slice_get}
 use Rattle.std.specs.Option.{option_map}
 use Rattle.std.proofs.lemmas.List.{length-map, drop_more, drop_all}
+use Rattle.std.proofs.lemmas.Option.{slice_get-map, slice_get-get_or}
 use Rattle.form.specs.Model.{Arg, Form, blank_arg}
 use Rattle.form.specs.Keys.{KeyName, letter, long, listed, key_names, arg_keys, keys_from, keys_of}
 use Rattle.keys.specs.KeysAt.{long_names, own_names, names_at_place}
 use Rattle.form.specs.Limits.{Fits, arg_items, summed}
 use Rattle.keys.proofs.KeyLists.{nth_left, nth_right, names_few}
 
-nth_map : {X Y : Type 0} (f : X → Y) (xs : List X) (i : ℕ) → slice_get (map f xs) i ≡ option_map f (slice_get xs i)
-nth_map f [] i = refl
-nth_map f (x ∷ xs) zero = refl
-nth_map f (x ∷ xs) (suc i) = nth_map f xs i
-
 some_at : {X Y : Type 0} (f : X → Y) (xs : List X) (i : ℕ) (d : X) → i < length xs → Some (f (get_or xs i d)) ≡ slice_get (map f xs) i
-some_at f [] i d lt = absurd (omega arith)
-some_at f (x ∷ xs) zero d lt = refl
-some_at f (x ∷ xs) (suc i) d lt = some_at f xs i d (omega arith)
+some_at f xs i d lt = sym (slice_get-map f xs i ∙ ap (option_map f) (slice_get-get_or xs i d lt))
 
 pub past_none : {X : Type 0} (xs : List X) (n : ℕ) → None ≡ slice_get xs n → length xs ≤ n
 past_none [] n e = omega arith
 past_none (x ∷ xs) zero e = absurd (let z : ◌≡◌ {A = ℕ} 0 1 = cc in omega arith)
 past_none (x ∷ xs) (suc n) e = let h : length xs ≤ n = past_none xs n e in omega arith
-
-within_some : {X : Type 0} (xs : List X) (n : ℕ) (x : X) → Some x ≡ slice_get xs n → n < length xs
-within_some [] n x e = absurd (let z : ◌≡◌ {A = ℕ} 0 1 = cc in omega arith)
-within_some (y ∷ xs) zero x e = omega arith
-within_some (y ∷ xs) (suc n) x e = let h : n < length xs = within_some xs n x e in omega arith
 
 aliases : Arg → List KeyName
 aliases a = map letter a.letter_aliases ++ map long a.long_aliases
@@ -41,9 +30,6 @@ in_parts a e = ap (λ i. key_names i a) e ∙ sym (append_assoc (map letter (lis
 pub names_total : (a : Arg) → a.index ≡ None → length (own_names a.letter a.long) + (length a.letter_aliases + length a.long_aliases) ≡ length (key_names a.index a)
 unfolding aliases
 names_total a e = sym (ap length (in_parts a e) ∙ simp (length-append, length-map))
-
-pub own_at : (a : Arg) (n : ℕ) (k : KeyName) → a.index ≡ None → Some k ≡ slice_get (own_names a.letter a.long) n → Some k ≡ slice_get (key_names a.index a) n
-own_at a n k e at = at ∙ sym (ap (λ ks. slice_get ks n) (in_parts a e) ∙ nth_left (own_names a.letter a.long) (aliases a) n (within_some _ n k at))
 
 pub letter_alias_at : (a : Arg) (n m : ℕ) → a.index ≡ None → n ≡ length (own_names a.letter a.long) + m → m < length a.letter_aliases
     → Some (letter (get_or a.letter_aliases m 0)) ≡ slice_get (key_names a.index a) n
@@ -84,7 +70,7 @@ pub key_here : (f : Form) (p n i : ℕ) (k : KeyName) → p < length f.args → 
     → slice_get (keys_from p (drop p f.args)) n ≡ slice_get (keys_of f) i → Some (record { name = k; place = p }) ≡ slice_get (keys_of f) i
 key_here f p n i k lt in_it at all =
     let a = get_or f.args p blank_arg in
-    ap (option_map (λ k. record { name = k; place = p })) at ∙ sym (nth_map (λ k. record { name = k; place = p }) (key_names a.index a) n)
+    ap (option_map (λ k. record { name = k; place = p })) at ∙ sym (slice_get-map (λ k. record { name = k; place = p }) (key_names a.index a) n)
     ∙ sym (nth_left (arg_keys p a) (keys_from (p + 1) (drop (p + 1) f.args)) n (omega (arith, arg_keys_count p a)))
     ∙ sym (ap (λ ks. slice_get ks n) (from_place f.args p lt)) ∙ all
 

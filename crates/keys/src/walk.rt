@@ -7,27 +7,15 @@ ghost use Rattle.form.specs.Shown.{key_name, shown_key};
 
 use form::{FormSource, ItemList, Key, KeyType};
 
-// A long name is one key, the first.
-fn long_key<'a>(long: Option<&'a [u8]>, n: usize) -> Option<KeyType<'a>>
-    ensures { option_map key_name result ≡ slice_get (long_names (option_map (λ x. x.now) long.entry)) n }
-{
-    match long {
-        Some(long) if n == 0 => Some(KeyType::Long(long)),
-        _ => None,
-    }
-}
-
 // An argument's letter and long name are keys, in that order, before its aliases.
-fn own_key<'a>(letter: Option<char>, long: Option<&'a [u8]>, n: usize) -> Option<KeyType<'a>>
+fn own_key<'a>(letter: Option<char>, long: Option<&'a [u8]>, n: usize) -> Option<KeyType<&'a [u8]>>
     ensures { option_map key_name result ≡ slice_get (own_names letter (option_map (λ x. x.now) long.entry)) n }
 {
-    let Some(letter) = letter else {
-        return long_key(long, n);
-    };
-    if n == 0 {
-        return Some(KeyType::Short(letter));
+    match (letter, long, n) {
+        (Some(letter), _, 0) => Some(KeyType::Short(letter)),
+        (Some(_), Some(long), 1) | (None, Some(long), 0) => Some(KeyType::Long(long)),
+        _ => None,
     }
-    long_key(long, n - 1)
 }
 
 fn own_key_count(letter: Option<char>, long: Option<&[u8]>) -> usize
@@ -51,7 +39,7 @@ fn arg_key_count<F: FormSource>(form: &F, place: usize) -> usize
 }
 
 // one of the keys of the argument at the place
-fn arg_key<'a, F: FormSource>(form: &'a F, place: usize, n: usize) -> KeyType<'a>
+fn arg_key<'a, F: FormSource>(form: &'a F, place: usize, n: usize) -> KeyType<&'a [u8]>
     requires { n < length (names_at_place (F.FormSource.form form.now) place) }
     ensures { Some (key_name result) ≡ slice_get (names_at_place (F.FormSource.form form.now) place) n }
 {
@@ -74,6 +62,7 @@ fn arg_key<'a, F: FormSource>(form: &'a F, place: usize, n: usize) -> KeyType<'a
 pub fn count_keys<F: FormSource>(form: &F) -> usize
     ensures { result ≡ length (keys_of (F.FormSource.form form.now)) }
 {
+    // not `sum`: that each total of it fits was tried, and the proof did not close
     let mut count = 0;
     for place in 0..form.arg_count() {
         count += arg_key_count(form, place);
@@ -82,9 +71,10 @@ pub fn count_keys<F: FormSource>(form: &F) -> usize
 }
 
 /// A key of a form, or none past the last, worked out in the same way.
-pub fn key_at<'a, F: FormSource>(form: &'a F, i: usize) -> Option<Key<'a>>
+pub fn key_at<'a, F: FormSource>(form: &'a F, i: usize) -> Option<Key<&'a [u8]>>
     ensures { option_map shown_key result ≡ slice_get (keys_of (F.FormSource.form form.now)) i }
 {
+    // a chain of all keys and its `nth` would be no plainer: each key needs that it is one of its argument's
     let mut rest = i;
     for place in 0..form.arg_count() {
         let count = arg_key_count(form, place);

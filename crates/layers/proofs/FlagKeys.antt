@@ -6,6 +6,7 @@ use Rattle.std.proofs.lemmas.List.{take-map, length-map}
 use Rattle.std.proofs.lemmas.Option.{slice_get_past}
 use Rattle.form.specs.Model.{Arg, Form}
 use Rattle.form.specs.Keys.{Key, letter, long, arg_keys, keys_from, keys_of}
+use Rattle.keys.proofs.ArgKeys.{past_none}
 use Rattle.keys.proofs.KeyLists.{keys_append, nth_left, nth_right}
 use Rattle.layers.specs.Flags.{help, version, where_wanted, wants_help, wants_version, with_flags}
 use Rattle.layers.specs.Room.{fitting}
@@ -13,11 +14,6 @@ use Rattle.layers.specs.Named.{flag_arg}
 use Rattle.layers.specs.declared.flag.Flag.{Flag}
 use Rattle.layers.specs.declared.flag.Flag.TheVariants.{Help, Version}
 use Rattle.layers.proofs.Places.{args_split}
-
-nth_none_past : {X : Type 0} (xs : List X) (n : ℕ) → None ≡ slice_get xs n → length xs ≤ n
-nth_none_past [] n e = omega arith
-nth_none_past (x ∷ xs) zero e = absurd (let z : ◌≡◌ {A = ℕ} 0 1 = cc in omega arith)
-nth_none_past (x ∷ xs) (suc n) e = let h : length xs ≤ n = nth_none_past xs n e in omega arith
 
 -- the flags that fit, by the code's names
 some_flags : Bool → Bool → List Flag
@@ -114,5 +110,5 @@ flag_long_key f i n s x le at e l =
 
 pub no_flag_key : (f : Form) (i n : ℕ) → length f.args ≤ 80 → length (keys_of f) + (n + n) ≤ i → None ≡ slice_get (fitting f) n → None ≡ slice_get (keys_of (with_flags f)) i
 no_flag_key f i n le past e =
-    let few : length (fitting f) ≤ n = nth_none_past (fitting f) n e in
+    let few : length (fitting f) ≤ n = past_none (fitting f) n e in
     sym (slice_get_past (keys_of (with_flags f)) i (omega (arith, flags_key_count f le)))

@@ -1,8 +1,8 @@
 -- What stands at a place of a form with its standard flags.
-use Rattle.std.proofs.Common.{◌≡◌, ℕ, zero, suc, ◌+◌, ◌-◌, ◌<◌, ◌≤◌, min, Bool, true, false, List, [], ◌∷◌, ◌++◌, length, get_or, take, Some, None, sym, refl, ap, ◌∙◌, arith, length-append, length-take}
-use native.Mathlib.Nat.{min_comm}
-use borrow.Author.Tests.{clash}
+use Rattle.std.proofs.Common.{◌≡◌, ℕ, zero, suc, ◌+◌, ◌-◌, ◌<◌, ◌≤◌, Bool, true, false, List, [], ◌∷◌, ◌++◌, length, get_or, take, Option, sym, refl, ap, ◌∙◌, arith, length-append, length-take}
 use Rattle.std.specs.List.{slice_get}
+use Rattle.std.specs.Option.{unwrap_or}
+use Rattle.std.proofs.lemmas.Option.{unwrap_or-slice_get}
 use Rattle.std.proofs.lemmas.List.{get_or_append_left, get_or-append_right}
 use Rattle.form.specs.Model.{Arg, Form, blank_arg}
 use Rattle.form.specs.Lists.{names_at, letters_at}
@@ -22,39 +22,12 @@ take_past (suc n) (x ∷ xs) ys h =
 pub args_split : (f : Form) → length f.args ≤ 80 → (with_flags f).args ≡ f.args ++ fitting f
 args_split f h = take_past 80 f.args (wanted f) h
 
-pub fitting_count : (f : Form) → min (length (wanted f)) (80 - length f.args) ≡ length (fitting f)
-fitting_count f = min_comm (length (wanted f)) (80 - length f.args) ∙ sym (length-take (80 - length f.args) (wanted f))
-
 abbrev two : Bool → Bool → List Arg
 two h v = where_wanted h help ++ where_wanted v version
 
 take_none : {X : Type 0} (n : ℕ) → take {A = X} n [] ≡ []
 take_none zero = refl
 take_none (suc n) = refl
-
-pub help_at : (k n : ℕ) (h v : Bool) → n < length (take k (two h v)) → n ≡ 0 → h ≡ true → Some help ≡ slice_get (take k (two h v)) n
-help_at zero n h v lt e w = absurd (omega arith)
-help_at (suc k) (suc n) h v lt e w = absurd (omega arith)
-help_at (suc k) zero true v lt e w = refl
-help_at (suc k) zero false v lt e w = absurd (clash w)
-
-none_at : (k n : ℕ) → n < length (take {A = Arg} k []) → ⊥
-none_at k n lt = omega (arith, ap length (take_none {X = Arg} k))
-
-one_at : (k n : ℕ) → n < length (take k (version ∷ [])) → Some version ≡ slice_get (take k (version ∷ [])) n
-one_at zero n lt = absurd (omega arith)
-one_at (suc k) zero lt = refl
-one_at (suc k) (suc n) lt = absurd (none_at k n (omega arith))
-
-pub version_at : (k n : ℕ) (h v : Bool) → n < length (take k (two h v)) → (n ≡ 0 → h ≡ true → ⊥) → Some version ≡ slice_get (take k (two h v)) n
-version_at zero n h v lt ne = absurd (omega arith)
-version_at (suc k) zero true v lt ne = absurd (ne refl refl)
-version_at (suc k) zero false true lt ne = refl
-version_at (suc k) zero false false lt ne = absurd (omega arith)
-version_at (suc k) (suc n) true true lt ne = one_at k n (omega arith)
-version_at (suc k) (suc n) true false lt ne = absurd (none_at k n (omega arith))
-version_at (suc k) (suc n) false true lt ne = absurd (none_at k n (omega arith))
-version_at (suc k) (suc n) false false lt ne = absurd (omega arith)
 
 -- what a flag and a blank argument have in common is not changed by the layer
 like_blank : {X : Type 0} (part : Arg → X) → part help ≡ part blank_arg → part version ≡ part blank_arg
@@ -116,16 +89,6 @@ letters_kept f SubcommandAliases p le = refl
 letters_kept f LongFlagAliases p le = refl
 letters_kept f LetterFlagAliases p le = refl
 
-nth_getD : {X : Type 0} (xs : List X) (i : ℕ) (d : X) (x : X) → Some x ≡ slice_get xs i → x ≡ get_or xs i d
-nth_getD [] i d x e = absurd (let z : ◌≡◌ {A = ℕ} 0 1 = cc in omega arith)
-nth_getD (y ∷ xs) zero d x e = cc
-nth_getD (y ∷ xs) (suc i) d x e = nth_getD xs i d x e
-
-nth_none : {X : Type 0} (xs : List X) (i : ℕ) (d : X) → None ≡ slice_get xs i → d ≡ get_or xs i d
-nth_none [] i d e = refl
-nth_none (y ∷ xs) zero d e = absurd (let z : ◌≡◌ {A = ℕ} 0 1 = cc in omega arith)
-nth_none (y ∷ xs) (suc i) d e = nth_none xs i d e
-
 pub own_arg : (f : Form) (p : ℕ) → length f.args ≤ 80 → p < length f.args → get_or f.args p blank_arg ≡ get_or (with_flags f).args p blank_arg
 own_arg f p le lt = sym (ap (λ xs. get_or xs p blank_arg) (args_split f le) ∙ get_or_append_left f.args (fitting f) blank_arg p lt)
 
@@ -134,11 +97,9 @@ past_own f p n le at =
     let e : p - length f.args ≡ n = omega arith in
     ap (λ xs. get_or xs p blank_arg) (args_split f le) ∙ get_or-append_right f.args (fitting f) (length f.args) p blank_arg refl (omega arith) ∙ ap (λ i. get_or (fitting f) i blank_arg) e
 
-pub flag_arg_at : (f : Form) (p n : ℕ) (a : Arg) → length f.args ≤ 80 → p ≡ length f.args + n → Some a ≡ slice_get (fitting f) n → a ≡ get_or (with_flags f).args p blank_arg
-flag_arg_at f p n a le at e = nth_getD (fitting f) n blank_arg a e ∙ sym (past_own f p n le at)
-
-pub no_arg_at : (f : Form) (p n : ℕ) → length f.args ≤ 80 → p ≡ length f.args + n → None ≡ slice_get (fitting f) n → blank_arg ≡ get_or (with_flags f).args p blank_arg
-no_arg_at f p n le at e = nth_none (fitting f) n blank_arg e ∙ sym (past_own f p n le at)
+-- past the form's own arguments: the flag there, or a blank argument where there is none
+pub arg_at : (f : Form) (p n : ℕ) (o : Option Arg) → length f.args ≤ 80 → p ≡ length f.args + n → o ≡ slice_get (fitting f) n → unwrap_or o blank_arg ≡ get_or (with_flags f).args p blank_arg
+arg_at f p n o le at e = ap (λ x. unwrap_or x blank_arg) e ∙ unwrap_or-slice_get (fitting f) n blank_arg ∙ sym (past_own f p n le at)
 
 pub flags_arg_count : (f : Form) → length f.args ≤ 80 → length f.args + length (fitting f) ≡ length (with_flags f).args
 flags_arg_count f le = sym (ap length (args_split f le) ∙ length-append f.args (fitting f))

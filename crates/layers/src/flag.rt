@@ -11,6 +11,7 @@ pub(crate) enum Flag {
     Version,
 }
 
+// A match for each part, since a key is told by its letter or its name alone.
 impl Flag {
     pub(crate) fn name(self) -> &'static [u8]
         ensures { result.now ≡ (flag_arg self).id }

@@ -9,12 +9,9 @@ ghost use Rattle.layers.specs.Fitted.{flags_fit};
 
 use super::flag::Flag;
 use form::{
-    AppFlags, AppSettings, ArgView, FormSource, GroupView, ItemList, Key, KeyType, Keyed,
+    AppFlags, AppSettings, ArgView, FormSource, GroupView, ItemList, Key, KeyType, Keyed, MAX_ARGS,
     SubcommandView,
 };
-
-// the arguments that a form can hold
-const MAX_ARGS: usize = 80;
 
 /// The form below with its standard flags: after its own arguments stand one for help and one for the version,
 /// as far as its settings want them and there is room.
@@ -105,10 +102,10 @@ impl<K: FormSource> FormSource for StandardFlags<K> {
         if place < own {
             return self.inner.arg(place);
         }
-        let Some(flag) = self.flag(place - own) else {
-            return ArgView::new(b"");
-        };
-        flag.view()
+        match self.flag(place - own) {
+            Some(flag) => flag.view(),
+            None => ArgView::new(b""),
+        }
     }
 
     fn group(&self, place: usize) -> GroupView<'_> {
@@ -142,15 +139,13 @@ impl<K: Keyed> Keyed for StandardFlags<K> {
     }
 
     // a flag has two keys, its letter and its long name
-    fn key(&self, i: usize) -> Option<Key<'_>> {
+    fn key(&self, i: usize) -> Option<Key<&[u8]>> {
         let own = self.inner.key_count();
         if i < own {
             return self.inner.key(i);
         }
         let n = (i - own) / 2;
-        let Some(flag) = self.flag(n) else {
-            return None;
-        };
+        let flag = self.flag(n)?;
         let name = if (i - own) % 2 == 0 {
             KeyType::Short(flag.letter())
         } else {

@@ -1,28 +1,20 @@
--- A text that is split at its first line feed.
-use Rattle.std.proofs.Common.{◌≡◌, ℕ, zero, suc, ◌+◌, ◌-◌, ◌<◌, ◌≤◌, List, [], ◌∷◌, ◌++◌, length, get_or, take, drop, refl, ap, inl, inr, arith, length-drop, take_all}
-use Rattle.notation.specs.Lines.{NoFeed, Split}
+-- The lines of a text that is split at its first line feed.
+use Rattle.std.proofs.Common.{◌≡◌, ℕ, suc, ◌<◌, List, [], ◌∷◌, ◌++◌, ◌⊎◌, length, refl, ap, sym, subst, ◌∙◌, inl, inr, arith, ne_eqb}
+use Rattle.notation.specs.Lines.{NoFeed, Split, onto, lines_of}
 
-split_here : (s : List ℕ) (n : ℕ) → n < length s → get_or s n 0 ≡ 10 → s ≡ take n s ++ (10 ∷ drop (suc n) s)
-split_here [] n h e = absurd (omega arith)
-split_here (b ∷ bs) zero h e = ap (λ x. x ∷ bs) e
-split_here (b ∷ bs) (suc n) h e = ap (λ xs. b ∷ xs) (split_here bs n (omega arith) e)
+ended : (line rest : List ℕ) → NoFeed line → lines_of (line ++ (10 ∷ rest)) ≡ line ∷ lines_of rest
+ended [] rest h = refl
+ended (c ∷ cs) rest h = rw (ne_eqb c 10 (h 0)) (ap (onto c) (ended cs rest (λ k. h (suc k))))
 
-none_before : (s : List ℕ) (n : ℕ) → ((k : ℕ) → k < n → get_or s k 0 ≡ 10 → ⊥) → NoFeed (take n s)
-none_before s zero h k e = omega (arith, e)
-none_before [] (suc n) h k e = omega (arith, e)
-none_before (b ∷ bs) (suc n) h zero e = h 0 (omega arith) e
-none_before (b ∷ bs) (suc n) h (suc k) e = none_before bs n (λ j l. h (suc j) (omega arith)) k e
+last : (c : ℕ) (cs : List ℕ) → NoFeed (c ∷ cs) → lines_of (c ∷ cs) ≡ (c ∷ cs) ∷ []
+last c [] h = rw (ne_eqb c 10 (h 0)) refl
+last c (d ∷ ds) h = rw (ne_eqb c 10 (h 0)) (ap (onto c) (last d ds (λ k. h (suc k))))
 
-none_past : (s : List ℕ) (n : ℕ) → length s ≤ n → ((k : ℕ) → k < n → get_or s k 0 ≡ 10 → ⊥) → NoFeed s
-none_past [] n le h k e = omega (arith, e)
-none_past (b ∷ bs) n le h zero e = h 0 (omega arith) e
-none_past (b ∷ bs) n le h (suc k) e = none_past bs (n - 1) (omega arith) (λ j l. h (suc j) (omega arith)) k e
+cut : (s line rest : List ℕ) → 0 < length s → NoFeed line → (s ≡ line ++ (10 ∷ rest)) ⊎ ((s ≡ line) × (rest ≡ [])) → lines_of s ≡ line ∷ lines_of rest
+cut s line rest some h (inl e) = ap lines_of e ∙ ended line rest h
+cut [] line rest some h (inr e) = absurd (omega arith)
+cut (c ∷ cs) line rest some h (inr e) =
+    last c cs (subst NoFeed (sym e.0) h) ∙ ap (λ l. l ∷ []) e.0 ∙ ap (λ r. line ∷ lines_of r) (sym e.1)
 
-pub split_feed : (s : List ℕ) (n j m i : ℕ) → n < length s → get_or s n 0 ≡ 10 → ((k : ℕ) → k < n → get_or s k 0 ≡ 10 → ⊥) → j ≡ n → i ≡ n + 1 → length s ≤ m + i → Split s (take j s) (take m (drop i s))
-split_feed s n j m i h e before ej ei em =
-    let all : length (drop i s) ≤ m = simp length-drop (omega arith) in
-    let next : i ≡ suc n = omega arith in
-    rw (ej, take_all m (drop i s) all, next) (record { whole = none_before s n before; parts = inl (split_here s n h e) })
-
-pub split_end : (s : List ℕ) (n : ℕ) → length s ≤ n → ((k : ℕ) → k < n → get_or s k 0 ≡ 10 → ⊥) → Split s s []
-split_end s n le before = record { whole = none_past s n le before; parts = inr (refl, refl) }
+pub lines_split : (s line rest : List ℕ) → Split s line rest → 0 < length s → lines_of s ≡ line ∷ lines_of rest
+lines_split s line rest h some = cut s line rest some h.whole h.parts

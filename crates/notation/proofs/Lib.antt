@@ -1,6 +1,6 @@
-pub mod Scans
+pub mod Decimal
 pub mod DigitScans
-pub mod Splits
-pub mod Feeds
-pub mod Leads
+pub mod Dots
 pub mod Letters
+pub mod Runs
+pub mod Feeds

@@ -1,5 +1,8 @@
 -- Ranges as Rust writes them.
 use Rattle.std.specs.Prelude.{ℕ, suc, ◌+◌, cond, ◌&&◌, List, [], ◌∷◌, take, drop, Some, None, Ok, Option, Result, ◌==◌}
+use Rattle.std.specs.Option.{option_map}
+use Rattle.std.specs.declared.ops.Bound.{Bound}
+use Rattle.std.specs.declared.ops.Bound.TheVariants.{Included, Excluded, Unbounded}
 use Rattle.form.specs.Model.{Range}
 use Rattle.form.specs.Ranges.{fixed, through, to_before, from_on, up_to_before, up_to, all}
 use Rattle.form.specs.declared.refusal.RangeFault.{RangeFault}
@@ -18,36 +21,26 @@ dots_from p (a ∷ (b ∷ cs)) = cond (a == 46 && b == 46) (Some p) (dots_from (
 abbrev pub dots : List ℕ → Option ℕ
 dots s = dots_from 0 s
 
--- what follows the dots: an end that is left out, one that is included, one that is not
-pub data End : Type 0 where
-  no_end : End
-  before : ℕ → End
-  through_end : ℕ → End
-
-abbrev pub number_end : (ℕ → End) → Option ℕ → Option End
-number_end e None = None
-number_end e (Some n) = Some (e n)
-
--- after the dots comes nothing, or `=` and a number, or a number
-abbrev pub end_of : List ℕ → Option End
-end_of [] = Some no_end
-end_of (c ∷ cs) = cond (c == 61) (number_end through_end (number cs)) (number_end before (number (c ∷ cs)))
+-- after the dots comes nothing, or `=` and a number that is included, or a number that is not
+abbrev pub end_of : List ℕ → Option (Bound ℕ)
+end_of [] = Some Unbounded
+end_of (c ∷ cs) = cond (c == 61) (option_map Included (number cs)) (option_map Excluded (number (c ∷ cs)))
 
 -- before the dots comes nothing, or a number
 abbrev pub start_of : List ℕ → Option (Option ℕ)
 start_of [] = Some None
-start_of (c ∷ cs) = elim (number (c ∷ cs)) [ None ↦ None | Some n ↦ Some (Some n) ]
+start_of (c ∷ cs) = option_map Some (number (c ∷ cs))
 
 -- a start and an end make a range
-abbrev pub ranged : Option ℕ → End → Result Range RangeFault
-ranged (Some a) no_end = Ok (from_on a)
-ranged (Some a) (before b) = to_before a b
-ranged (Some a) (through_end b) = through a b
-ranged None no_end = Ok all
-ranged None (before b) = Ok (up_to_before b)
-ranged None (through_end b) = Ok (up_to b)
+abbrev pub ranged : Option ℕ → Bound ℕ → Result Range RangeFault
+ranged (Some a) Unbounded = Ok (from_on a)
+ranged (Some a) (Excluded b) = to_before a b
+ranged (Some a) (Included b) = through a b
+ranged None Unbounded = Ok all
+ranged None (Excluded b) = Ok (up_to_before b)
+ranged None (Included b) = Ok (up_to b)
 
-abbrev pub both : Option (Option ℕ) → Option End → Reading
+abbrev pub both : Option (Option ℕ) → Option (Bound ℕ) → Reading
 both None e = None
 both (Some s) None = None
 both (Some s) (Some e) = Some (ranged s e)

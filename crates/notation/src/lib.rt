@@ -9,7 +9,7 @@ mod small;
 mod words;
 
 pub use digits::{digit_value, read_count, read_digits};
-pub use lines::split_line;
+pub use lines::{Lines, split_line};
 pub use number::read_number;
 pub use range_text::read_range;
 pub use small::{read_letter, read_u8, read_u16};

@@ -2,28 +2,19 @@ ghost use Rattle.std.specs.Prelude.{◌≡◌, ◌+◌, ◌≤◌, length, IfSom
 ghost use Rattle.form.specs.Bounds.{bounded};
 ghost use Rattle.std.specs.Option.{option_map};
 ghost use Rattle.notation.specs.RangeTexts.{range_written, dots, start_of, end_of, ranged};
-ghost use Rattle.notation.specs.Read.{end_read};
 
 use super::number::read_number;
 use form::{RangeFault, ValueRange};
-
-// What follows the dots of a range.
-#[derive(Clone, Copy)]
-enum RangeEnd {
-    Absent,
-    Before(u64),
-    Through(u64),
-}
+use std::ops::Bound;
 
 /// The range that a text writes in Rust's notation, or why it is refused; none if the text is no range.
 pub fn read_range(text: &[u8]) -> Option<Result<ValueRange, RangeFault>>
     ensures { option_map bounded result ≡ range_written text.now }
 {
     let Some(at) = find_dots(text) else {
-        let n = read_number(text)?;
-        return Some(Ok(ValueRange::from(n)));
+        return read_number(text).map(|n| Ok(ValueRange::from(n)));
     };
-    let start = read_start(&text[0..at])?;
+    let start = read_start(&text[..at])?;
     let end = read_end(&text[at + 2..])?;
     Some(make_range(start, end))
 }
@@ -33,45 +24,38 @@ fn find_dots(text: &[u8]) -> Option<usize>
     ensures value { result ≡ dots text.now }
     ensures within { IfSome result (λ i. i + 2 ≤ length text.now) }
 {
-    for i in 1..text.len() {
-        if text[i - 1] == b'.' && text[i] == b'.' {
-            return Some(i - 1);
-        }
-    }
-    None
+    text.windows(2)
+        .position(|pair| matches!(pair, [b'.', b'.']))
 }
 
 fn read_start(text: &[u8]) -> Option<Option<u64>>
     ensures { result ≡ start_of text.now }
 {
-    if text.is_empty() {
-        return Some(None);
+    match text {
+        [] => Some(None),
+        number => read_number(number).map(Some),
     }
-    let n = read_number(text)?;
-    Some(Some(n))
 }
 
-fn read_end(text: &[u8]) -> Option<RangeEnd>
-    ensures { option_map end_read result ≡ end_of text.now }
+fn read_end(text: &[u8]) -> Option<Bound<u64>>
+    ensures { result ≡ end_of text.now }
 {
-    if text.is_empty() {
-        return Some(RangeEnd::Absent);
+    match text {
+        [] => Some(Bound::Unbounded),
+        [b'=', last @ ..] => read_number(last).map(Bound::Included),
+        end => read_number(end).map(Bound::Excluded),
     }
-    if text[0] == b'=' {
-        return Some(RangeEnd::Through(read_number(&text[1..])?));
-    }
-    Some(RangeEnd::Before(read_number(text)?))
 }
 
-fn make_range(start: Option<u64>, end: RangeEnd) -> Result<ValueRange, RangeFault>
-    ensures { bounded result ≡ ranged start (end_read end) }
+fn make_range(start: Option<u64>, end: Bound<u64>) -> Result<ValueRange, RangeFault>
+    ensures { bounded result ≡ ranged start end }
 {
     match (start, end) {
-        (Some(a), RangeEnd::Absent) => Ok(ValueRange::from(a..)),
-        (Some(a), RangeEnd::Before(b)) => ValueRange::try_from(a..b),
-        (Some(a), RangeEnd::Through(b)) => ValueRange::try_from(a..=b),
-        (None, RangeEnd::Absent) => Ok(ValueRange::from(..)),
-        (None, RangeEnd::Before(b)) => Ok(ValueRange::from(..b)),
-        (None, RangeEnd::Through(b)) => Ok(ValueRange::from(..=b)),
+        (Some(a), Bound::Unbounded) => Ok(ValueRange::from(a..)),
+        (Some(a), Bound::Excluded(b)) => ValueRange::try_from(a..b),
+        (Some(a), Bound::Included(b)) => ValueRange::try_from(a..=b),
+        (None, Bound::Unbounded) => Ok(ValueRange::from(..)),
+        (None, Bound::Excluded(b)) => Ok(ValueRange::from(..b)),
+        (None, Bound::Included(b)) => Ok(ValueRange::from(..=b)),
     }
 }

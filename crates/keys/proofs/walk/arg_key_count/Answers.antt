@@ -19,10 +19,3 @@ overflow_add-result-2 g c =
     let a = get_or f.args c.args.place blank_arg in
     let e = no_index _ a.index c.if-is_some.ensures (ap (λ r. r.index) c.arg-arg.ensures) in
     omega (arith, place_few f c.args.place (g.F.FormSource.fits s), names_total a e, c.own_key_count-own.ensures, ap (λ r. length (own_names r.letter r.long)) c.arg-arg.ensures, c.letter_count-letters.ensures, c.name_count-longs.ensures)
-
-pub returns : goal.returns
-returns g c =
-    let f = g.F.FormSource.form c.args.form.now in
-    let a = get_or f.args c.args.place blank_arg in
-    let e = no_index _ a.index c.if-is_some.ensures (ap (λ r. r.index) c.arg-arg.ensures) in
-    omega (arith, names_total a e, c.own_key_count-own.ensures, ap (λ r. length (own_names r.letter r.long)) c.arg-arg.ensures, c.letter_count-letters.ensures, c.name_count-longs.ensures)

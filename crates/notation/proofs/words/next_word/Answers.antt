@@ -1,10 +1,14 @@
-use Rattle.std.proofs.Common.{refl, arith, length-drop, length-take}
-use Rattle.notation.proofs.Leads.{word_is, behind_is}
+use Rattle.std.proofs.Common.{rules, ◌∙◌, not}
+use Rattle.notation.specs.Words.{blank}
+use Rattle.notation.proofs.Runs.{run_end, word_is, behind_is}
 use Rattle.notation.proofs.words.next_word.Goals as goal
 
-pub returns : goal.returns
-returns c = record {
-  word = word_is c.args.text.now _ _ _ _ c.leading-start.ensures.value refl c.leading-end.ensures.value (omega arith);
-  rest = behind_is c.args.text.now _ _ _ c.leading-start.ensures.value refl c.leading-end.ensures.value;
-  shorter = simp (length-take, length-drop) (omega (arith, c.leading-start.ensures.within, simp (length-take, length-drop) at c.leading-end.ensures.within));
-}
+pub returns-clause-word : goal.returns-clause-word
+returns-clause-word c =
+    let start = run_end (λ b. not (blank b)) c.args.text.now c.position-start.result _ c.unwrap_or.ensures (search rules) in
+    c.split_at.ensures.front ∙ word_is c.args.text.now _ _ start (run_end blank _ c.position-end.result _ c.unwrap_or-2.ensures (search rules))
+
+pub returns-clause-rest : goal.returns-clause-rest
+returns-clause-rest c =
+    let start = run_end (λ b. not (blank b)) c.args.text.now c.position-start.result _ c.unwrap_or.ensures (search rules) in
+    c.split_at.ensures.back ∙ behind_is c.args.text.now _ _ start (run_end blank _ c.position-end.result _ c.unwrap_or-2.ensures (search rules))
