@@ -5,12 +5,14 @@ use Rattle.std.specs.Option.{is_some, option_eq}
 use borrow.Author.Tests.{clash}
 use Rattle.rules.specs.Rows.{same_if}
 use Rattle.std.specs.Bool.{⊤}
+use Rattle.std.specs.ControlFlow.{break_value}
+use Rattle.std.specs.declared.ops.ControlFlow.{ControlFlow}
 use Rattle.sinks.specs.Flow.{flow}
 use Rattle.sinks.specs.declared.sink.Sink.{Ghosts}
 use Rattle.std.specs.List.{range_with_len}
 use Rattle.std.proofs.lemmas.List.FromFn.{length-range_with_len}
 use Rattle.std.proofs.lemmas.List.{drop_all}
-use Rattle.rules.specs.Order.{blocks, when}
+use Rattle.rules.specs.Order.{blocks}
 use Rattle.rules.specs.declared.breach.Breach.{Breach}
 use Rattle.sinks.specs.Alike.{between}
 
@@ -46,9 +48,6 @@ between_is t h d n m xs e same =
 pub record Walked {S X : Type 0} (k : Ghosts S) (h : ℕ → X → List Breach) (n : ℕ) (xs : List X) (s : S) (i : ℕ) (t : S) : Type 0 where
   pub rest : (u : S) → k.after t (blocks h i (drop i xs)) u → k.after s (blocks h n (drop n xs)) u
 
-pub walk_start : {S X : Type 0} {k : Ghosts S} {h : ℕ → X → List Breach} {n : ℕ} {xs : List X} {s : S} → Walked k h n xs s n s
-walk_start = record { rest = λ u a. a }
-
 -- one turn more
 pub walk_step : {S X : Type 0} {k : Ghosts S} {h : ℕ → X → List Breach} {n : ℕ} {xs : List X} {s t t' : S} {i : ℕ} (d : X) → i < length xs → Walked k h n xs s i t → k.after t (h i (get_or xs i d)) t' → Walked k h n xs s (i + 1) t'
 walk_step {S} {X} {k} {h} {n} {xs} {s} {t} {t'} {i} d l w here = record { rest = λ u a. w.rest u (rw (blocks_more h i xs d l) (k.more t t' u _ _ here a)) }
@@ -74,17 +73,6 @@ then_stop {S} k xs ys {s} {t} {b} a off = k.more s t t xs ys a (k.stays t ys (br
 pub then_more : {S : Type 0} (k : Ghosts S) (xs ys : List Breach) {s t u : S} → k.after s xs t → k.after t ys u → k.after s (xs ++ ys) u
 then_more {S} k xs ys {s} {t} {u} a b = k.more s t u xs ys a b
 
--- one test: what was offered where it holds, nothing where it fails
-pub when_yes : {S : Type 0} (after : S → List Breach → S → Type 0) (s t : S) (b : Bool) (x y : Breach) → b ≡ true → x ≡ y → after s (x ∷ []) t → after s (when b y) t
-when_yes after s t b x y e is a = rw (e, ← is) a
-
-pub when_no : {S : Type 0} (after : S → List Breach → S → Type 0) → ((s : S) → after s [] s) → (s : S) (b : Bool) (y : Breach) → b ≡ false → after s (when b y) s
-when_no after none s b y e = rw e (none s)
-
--- a test and a breach under their other names
-pub when_as : {S : Type 0} (after : S → List Breach → S → Type 0) (s t : S) (b b' : Bool) (x y : Breach) → b ≡ b' → x ≡ y → after s (when b x) t → after s (when b' y) t
-when_as after s t b b' x y e is a = rw (← e, ← is) a
-
 -- what is there is the same as what is there too
 pub same_there : {X : Type 0} (same : X → X → Bool) (x y : Option X) → is_some x ≡ true → option_eq same x y ≡ same_if same x y
 same_there same None y e = absurd (clash e)
@@ -94,3 +82,8 @@ same_there same (Some x) (Some y) e = refl
 pub absent : {X : Type 0} (x : Option X) → is_some x ≡ false → x ≡ None
 absent None e = refl
 absent (Some x) e = absurd (clash (sym e))
+
+-- an answer that is a break, as `?` would tell it
+pub breaks : {r : ControlFlow ⊤ ⊤} {b : Bool} (f : Bool) → r ≡ flow f → b ≡ is_some (break_value r) → b ≡ true → Break tt ≡ flow f
+breaks true goes is e = refl
+breaks false goes is e = absurd (clash (sym (rw goes at is) ∙ e))

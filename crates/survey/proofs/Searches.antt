@@ -1,31 +1,12 @@
--- Searches of a table: what is found from a place on.
-use Rattle.std.proofs.Common.{◌≡◌, ℕ, zero, suc, ◌+◌, ◌<◌, ◌≤◌, Bool, true, false, cond, List, [], ◌∷◌, map, length, get_or, drop, Some, None, sym, refl, ap, zero-add, add-zero, filter, Option, ◌∙◌, arith, add-one, drop-cons}
+-- Searches of a table by the places of its elements.
+use Rattle.std.proofs.Common.{◌≡◌, ℕ, zero, suc, ◌+◌, ◌<◌, ◌≤◌, Bool, true, false, cond, ◌||◌, ◌++◌, List, [], ◌∷◌, map, length, get_or, Some, None, sym, refl, ap, zero-add, add-zero, filter, Option, ◌∙◌, arith}
 use Rattle.std.specs.Bool.{MatchBool}
 use Rattle.std.specs.Option.{MatchOption}
 use Rattle.std.specs.List.{AllWithin, HoldsAt, range_with_len}
 use Rattle.std.proofs.lemmas.List.FromFn.{length-range_with_len, get_or-range_with_len}
-use Rattle.std.proofs.lemmas.List.{drop_all}
 use Rattle.form.specs.Model.{Arg, blank_arg}
 use Rattle.rules.specs.Order.{some}
 use Rattle.rules.specs.Rows.{is_number, first_at}
-
-pub first_at_yes : (n : ℕ) (args : List Arg) (i : ℕ) → i < length args → is_number n (get_or args i blank_arg).index ≡ true → first_at n i (drop i args) ≡ Some i
-first_at_yes n args i l e = rw (drop-cons args i blank_arg, e)
-
-pub first_at_no : (n : ℕ) (args : List Arg) (i : ℕ) → i < length args → is_number n (get_or args i blank_arg).index ≡ false → first_at n i (drop i args) ≡ first_at n (i + 1) (drop (i + 1) args)
-first_at_no n args i l e = rw (drop-cons args i blank_arg, e, add-one)
-
-pub first_at_all : (n : ℕ) (args : List Arg) (i : ℕ) → length args ≤ i → first_at n i (drop i args) ≡ None
-first_at_all n args i l = rw drop_all
-
-pub some_yes : {X : Type 0} (test : X → Bool) (xs : List X) (i : ℕ) (d : X) → i < length xs → test (get_or xs i d) ≡ true → some test (drop i xs) ≡ true
-some_yes test xs i d l e = rw (drop-cons xs i d, e)
-
-pub some_no : {X : Type 0} (test : X → Bool) (xs : List X) (i : ℕ) (d : X) → i < length xs → test (get_or xs i d) ≡ false → some test (drop i xs) ≡ some test (drop (i + 1) xs)
-some_no test xs i d l e = rw (drop-cons xs i d, e, add-one)
-
-pub some_all : {X : Type 0} (test : X → Bool) (xs : List X) (i : ℕ) → length xs ≤ i → some test (drop i xs) ≡ false
-some_all test xs i l = rw drop_all
 
 -- no element passes, or one does
 some_false : {X : Type 0} (test : X → Bool) (xs : List X) (d : X) → ((k : ℕ) → k < length xs → test (get_or xs k d) ≡ false) → some test xs ≡ false
@@ -90,3 +71,10 @@ pub first_place : (n m : ℕ) (xs : List Arg) (r : Option ℕ) → m ≡ length 
     → r ≡ first_at n 0 xs
 first_place n m xs None e found = sym (first_none n 0 xs (λ k l. found k (omega arith) (omega arith)))
 first_place n m xs (Some p) e found = sym (first_some n 0 p xs (omega (arith, found.1)) found.2 (λ k l. found.3 k (omega arith) l) ∙ ap (λ q. Some q) (zero-add p))
+
+pub some_append : {X : Type 0} (test : X → Bool) (xs ys : List X) → some test (xs ++ ys) ≡ (some test xs || some test ys)
+some_append test [] ys = refl
+some_append test (x ∷ xs) ys = go (test x) (some_append test xs ys) where
+  go : (b : Bool) → some test (xs ++ ys) ≡ (some test xs || some test ys) → cond b true (some test (xs ++ ys)) ≡ (cond b true (some test xs) || some test ys)
+  go true e = refl
+  go false e = e

@@ -17,7 +17,7 @@ pub(crate) struct ArgAt<'a, F: FormSource> {
 }
 
 impl<'a, F: FormSource> ArgAt<'a, F> {
-    pub fn new(form: &'a F, place: usize) -> ArgAt<'a, F>
+    pub(crate) fn new(form: &'a F, place: usize) -> ArgAt<'a, F>
         requires { place < length (F.FormSource.form form.now).args }
         ensures form { F.FormSource.form result.form.now ≡ F.FormSource.form form.now }
         ensures place { result.place ≡ place }
@@ -30,7 +30,7 @@ impl<'a, F: FormSource> ArgAt<'a, F> {
     }
 
     /// The argument, as a breach names it.
-    pub fn entry(&self) -> Entry
+    pub(crate) fn entry(&self) -> Entry
         ensures { result ≡ argument self.now.place }
     {
         argument_at(self.place)

@@ -1,4 +1,4 @@
-ghost use Rattle.std.specs.Prelude.{◌≡◌};
+ghost use Rattle.std.specs.Prelude.{◌≡◌, ◌^◌, ◌<◌};
 ghost use Rattle.std.specs.List.{range_with_len};
 ghost use Rattle.form.specs.Settings.{bit};
 ghost use Rattle.rules.specs.Order.{blocks, when};
@@ -11,7 +11,7 @@ ghost use Rattle.sinks.specs.Flow.{flow};
 use super::arg_at::ArgAt;
 use form::FormSource;
 use rules::{Entry, Rule};
-use sinks::{Sink, of_bit, offer_if};
+use sinks::{Sink, of_bit};
 use std::ops::ControlFlow;
 
 /// The settings about values: bits 4 to 8, 10 and 11.
@@ -30,14 +30,18 @@ impl<F: FormSource> ArgAt<'_, F> {
     }
 }
 
-// offers each bit of an argument's settings, the lowest first
+// offers each bit of the settings, the lowest first
+// A rule of the project names this form: as many turns as there are bits, and the lowest that is left at each.
 fn offer_bits<S: Sink>(owner: Entry, settings: u16, sink: &mut S) -> ControlFlow<()>
+    requires { settings < 2 ^ 12 }
     ensures took { S.Sink.after sink.old (blocks (λ k _. when (bit settings k) (of_bit SettingWithoutValue owner k)) 0 (range_with_len 0 12)) sink.new }
     ensures goes { result ≡ flow (S.Sink.full sink.new) }
 {
-    for bit in 0..12 {
-        let is_set = (settings >> bit) % 2 == 1;
-        offer_if(is_set, of_bit(Rule::SettingWithoutValue, owner, bit), sink)?;
+    let mut left = settings;
+    for _turn in 0..settings.count_ones() {
+        let lowest = left.trailing_zeros();
+        sink.offer(of_bit(Rule::SettingWithoutValue, owner, lowest as usize))?;
+        left -= 1 << lowest;
     }
     sink.go_on()
 }

@@ -1,11 +1,12 @@
-use Rattle.std.specs.List.{range_with_len}
-use Rattle.form.specs.Settings.{bit}
-use Rattle.rules.specs.Order.{when}
+use Rattle.std.proofs.Common.{◌≡◌, ◌+◌, ◌^◌, ◌<◌}
+use lib.Count.{ones}
 use Rattle.rules.specs.Told.{of_bit}
 use Rattle.rules.specs.declared.rule.Rule.TheVariants.{SettingWithoutValue}
-use Rattle.sinks.proofs.Walks.{Walked}
+use Rattle.survey.proofs.Masks.{bits_told}
 use Rattle.survey.proofs.value_settings.offer_bits.Given as goal
 
-abbrev pub invariant-loop-bit : goal.invariant-loop-bit
-invariant-loop-bit g l =
-    Walked g.S.Sink (λ k _. when (bit l.settings k) (of_bit SettingWithoutValue l.owner k)) 0 (range_with_len 0 12) l.initial.sink l.bit l.sink
+abbrev pub invariant-loop-turn : goal.invariant-loop-turn
+invariant-loop-turn g l =
+    (l.left < 2 ^ 12) × (ones l.left + l._turn ≡ ones l.settings)
+    × ((u : g.row.S.Denot) → g.S.Sink.after l.sink (bits_told (of_bit SettingWithoutValue l.owner) 12 0 l.left) u
+    → g.S.Sink.after l.initial.sink (bits_told (of_bit SettingWithoutValue l.owner) 12 0 l.settings) u)
