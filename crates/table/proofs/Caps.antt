@@ -1,17 +1,14 @@
 -- Counts that stop at the largest number, and the limit on items.
-use Rattle.std.proofs.Common.{◌≡◌, ℕ, zero, suc, ◌+◌, ◌<◌, ◌≤◌, min, Bool, true, false, ◌&&◌, leb, ◌⊎◌, List, [], ◌∷◌, map, length, get_or, take, sym, refl, ap, ◌∙◌, inl, inr, add-one, arith, Bor, le-leb, leb-false, leb-true}
+use Rattle.std.proofs.Common.{◌≡◌, ℕ, zero, suc, ◌+◌, ◌<◌, ◌≤◌, min, Bool, true, false, ◌&&◌, leb, List, [], ◌∷◌, map, length, get_or, take, sym, refl, ap, ◌∙◌, add-one, arith, le-leb, leb-false, leb-true}
 use borrow.Author.Tests.{lt-leb}
 use Rattle.std.proofs.lemmas.List.{length-map}
 use Rattle.form.specs.Limits.{arg_items, group_items, subcommand_items, summed}
 use Rattle.table.specs.Capped.{capped}
-use Rattle.table.specs.Entries.{bytes, arg_of, group_of, subcommand_of}
+use Rattle.table.specs.Entries.{arg_of, group_of, subcommand_of}
 use Rattle.table.specs.Tables.{form_of, within}
 use Rattle.table.specs.declared.rows.ArgRow.{ArgRow}
 use Rattle.table.specs.declared.rows.GroupRow.{GroupRow}
 use Rattle.table.specs.declared.rows.SubcommandRow.{SubcommandRow}
-
-pub capped_more : (r s m n : ℕ) → s ≡ capped m → r ≡ min (s + n) 18446744073709551615 → r ≡ capped (m + n)
-capped_more r s m n e f = omega arith
 
 pub capped_sum : (r s t m n : ℕ) → s ≡ capped m → t ≡ capped n → r ≡ min (s + t) 18446744073709551615 → r ≡ capped (m + n)
 capped_sum r s t m n e f h = omega arith
@@ -29,30 +26,6 @@ summed_map : {X Y : Type 0} (size : Y → ℕ) (f : X → Y) (xs : List X) → s
 unfolding summed
 summed_map size f [] = refl
 summed_map size f (x ∷ xs) = ap (λ n. size (f x) + n) (summed_map size f xs)
-
--- the lengths of a row's slices are the lengths of its entry's lists
-names_length : (xs : List (Bor (List ℕ))) → length (bytes xs) ≡ length xs
-names_length xs = length-map xs (λ x. x.now)
-
-pub arg_total : (r : ArgRow) → length r.requirements.now + length r.r_ifs.now + length r.r_ifs_all.now + length r.r_unless.now
-    + length r.r_unless_all.now + length r.conflicts.now + length r.overrides.now + length r.long_aliases.now + length r.letter_aliases.now ≡ arg_items (arg_of r)
-arg_total r = omega (
-  arith,
-  names_length r.requirements.now,
-  names_length r.r_ifs.now,
-  names_length r.r_ifs_all.now,
-  names_length r.r_unless.now,
-  names_length r.r_unless_all.now,
-  names_length r.conflicts.now,
-  names_length r.overrides.now,
-  names_length r.long_aliases.now,
-)
-
-pub group_total : (r : GroupRow) → length r.members.now + length r.requirements.now + length r.conflicts.now ≡ group_items (group_of r)
-group_total r = omega (arith, names_length r.members.now, names_length r.requirements.now, names_length r.conflicts.now)
-
-pub subcommand_total : (r : SubcommandRow) → length r.aliases.now + length r.long_aliases.now + length r.letter_aliases.now ≡ subcommand_items (subcommand_of r)
-subcommand_total r = omega (arith, names_length r.aliases.now, names_length r.long_aliases.now)
 
 -- within, in terms of the rows
 pub within_rows : (n : ℕ) (args : List ArgRow) (groups : List GroupRow) (subcommands : List SubcommandRow)
@@ -74,13 +47,6 @@ same_leb a b e = go (leb b 1024) refl where
   go : (t : Bool) → leb b 1024 ≡ t → leb a 1024 ≡ leb b 1024
   go true h = le-leb a 1024 (omega (arith, leb-true b 1024 h)) ∙ sym h
   go false h = lt-leb a 1024 (omega (arith, leb-false b 1024 h)) ∙ sym h
-
--- a table too long: the test fails
-pub too_long : (a g s : ℕ) (t : Bool) → (80 < a) ⊎ (((a ≤ 80) × (16 < g)) ⊎ ((a ≤ 80) × (g ≤ 16) × (32 < s)))
-    → false ≡ (leb a 80 && (leb g 16 && (leb s 32 && t)))
-too_long a g s t (inl x) = rw (lt-leb a 80 x)
-too_long a g s t (inr (inl x)) = rw (le-leb a 80 x.0, lt-leb g 16 x.1)
-too_long a g s t (inr (inr x)) = rw (le-leb a 80 x.0, le-leb g 16 x.1, lt-leb s 32 x.2)
 
 -- no table too long: the items decide
 pub items_decide : (a g s : ℕ) (t : Bool) → a ≤ 80 → g ≤ 16 → s ≤ 32 → t ≡ (leb a 80 && (leb g 16 && (leb s 32 && t)))

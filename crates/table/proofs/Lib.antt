@@ -1,3 +1,2 @@
 pub mod Caps
-pub mod Shows
-pub mod Blanks
+pub mod Lists

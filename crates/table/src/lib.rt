@@ -1,7 +1,7 @@
 //! Keyed forms over constant tables in code: for definitions that a program keeps itself, and for tests and examples.
 #![tactic(auto)]
 
-mod items;
+mod listed;
 mod rows;
 mod source;
 mod table_form;
@@ -60,5 +60,15 @@ mod tests {
         let form = TableForm::new(AppFlags::from_bits(0), &args, &groups, &subcommands);
         assert!(rt; form.check().is_err());
         assert!(rt; form.group_count() == 0);
+        assert!(rt;
+            TableForm::try_new(AppFlags::from_bits(0), &args, &groups, &subcommands).is_err()
+        );
+    }
+
+    #[test]
+    fn tables_within_the_limits_are_taken(rt: HostRuntime) {
+        let args = [config(), input()];
+        let taken = TableForm::try_new(AppFlags::from_bits(0), &args, &[], &[]);
+        assert!(rt; taken.is_ok_and(|form| form.arg_count() == 2));
     }
 }

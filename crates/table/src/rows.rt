@@ -1,8 +1,7 @@
-ghost use Rattle.std.specs.Prelude.{◌≡◌, map};
-ghost use Rattle.form.specs.Lists.{arg_names};
-ghost use Rattle.table.specs.Entries.{arg_of, group_of, subcommand_of, bytes, only_arg, only_group, only_subcommand, arg_letters, group_names, subcommand_names, subcommand_letters};
+ghost use Rattle.std.specs.Prelude.{◌≡◌};
+ghost use Rattle.table.specs.Entries.{arg_of, group_of, subcommand_of, only_arg, only_group, only_subcommand};
 
-use form::{ArgView, GroupView, ItemList, SubcommandView};
+use form::{ArgView, GroupView, SubcommandView};
 
 /// An argument in a table: its record and its nine lists.
 #[derive(Clone, Copy)]
@@ -37,33 +36,6 @@ impl<'a> ArgRow<'a> {
             letter_aliases: &[],
         }
     }
-
-    // the names of the list; none where it is not the argument's or holds letters
-    pub(crate) fn names(&self, list: ItemList) -> &'a [&'a [u8]]
-        ensures { bytes result.now ≡ arg_names (arg_of self.now) list }
-    {
-        match list {
-            ItemList::Requires => self.requirements,
-            ItemList::RIfs => self.r_ifs,
-            ItemList::RIfsAll => self.r_ifs_all,
-            ItemList::RUnless => self.r_unless,
-            ItemList::RUnlessAll => self.r_unless_all,
-            ItemList::Conflicts => self.conflicts,
-            ItemList::Overrides => self.overrides,
-            ItemList::LongAliases => self.long_aliases,
-            _ => &[],
-        }
-    }
-
-    // the letters of the list; none where it is not the argument's or holds names
-    pub(crate) fn letters(&self, list: ItemList) -> &'a [char]
-        ensures { result.now ≡ arg_letters (arg_of self.now) list }
-    {
-        match list {
-            ItemList::LetterAliases => self.letter_aliases,
-            _ => &[],
-        }
-    }
 }
 
 /// A group in a table: its record and its three lists.
@@ -87,18 +59,6 @@ impl<'a> GroupRow<'a> {
             conflicts: &[],
         }
     }
-
-    // the names of the list; none where it is not the group's
-    pub(crate) fn names(&self, list: ItemList) -> &'a [&'a [u8]]
-        ensures { bytes result.now ≡ group_names (group_of self.now) list }
-    {
-        match list {
-            ItemList::Members => self.members,
-            ItemList::GroupRequires => self.requirements,
-            ItemList::GroupConflicts => self.conflicts,
-            _ => &[],
-        }
-    }
 }
 
 /// A subcommand in a table: its record and its three lists.
@@ -120,27 +80,6 @@ impl<'a> SubcommandRow<'a> {
             aliases: &[],
             long_aliases: &[],
             letter_aliases: &[],
-        }
-    }
-
-    // the names of the list; none where it is not the subcommand's or holds letters
-    pub(crate) fn names(&self, list: ItemList) -> &'a [&'a [u8]]
-        ensures { bytes result.now ≡ subcommand_names (subcommand_of self.now) list }
-    {
-        match list {
-            ItemList::SubcommandAliases => self.aliases,
-            ItemList::LongFlagAliases => self.long_aliases,
-            _ => &[],
-        }
-    }
-
-    // the letters of the list; none where it is not the subcommand's or holds names
-    pub(crate) fn letters(&self, list: ItemList) -> &'a [char]
-        ensures { result.now ≡ subcommand_letters (subcommand_of self.now) list }
-    {
-        match list {
-            ItemList::LetterFlagAliases => self.letter_aliases,
-            _ => &[],
         }
     }
 }

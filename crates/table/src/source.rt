@@ -1,102 +1,35 @@
-ghost use Rattle.std.specs.Prelude.{◌≡◌, ◌<◌, [], length, slice_index_or};
-ghost use Rattle.form.specs.Model.{blank_arg, blank_group, blank_subcommand};
-ghost use Rattle.form.specs.Lists.{arg_names, names_at, letters_at};
-ghost use Rattle.table.specs.Entries.{bytes, arg_letters, group_names, subcommand_names, subcommand_letters};
+ghost use Rattle.std.specs.Prelude.{◌≡◌};
+ghost use Rattle.form.specs.Lists.{names_at, letters_at};
+ghost use Rattle.table.specs.Entries.{bytes};
 ghost use Rattle.table.specs.Meant.{form_meant};
 ghost use Rattle.table.specs.Fitted.{within_fits};
 
+use super::listed::{letters_in, names_in};
 use super::table_form::TableForm;
 use form::{
     AppFlags, ArgView, EntryKind, FormSource, GroupView, ItemList, Key, Keyed, SubcommandView,
 };
 use keys::{count_keys, key_at};
 
-// the row at the place
-fn row_at<R>(rows: &[R], place: usize) -> &R
-    requires { place < length rows.now }
-    ensures { result.now ≡ slice_index_or rows.now place result.now }
-{
-    &rows[place]
-}
-
-// a name of a list; empty past its end
-fn name_in<'a>(names: &'a [&'a [u8]], item: usize) -> &'a [u8]
-    ensures { result.now ≡ slice_index_or (bytes names.now) item [] }
-{
-    if item < names.len() { names[item] } else { b"" }
-}
-
 // The lists of the entry at a place, by the entry's kind; past the end of its table there is nothing.
 impl<'a> TableForm<'_, 'a> {
-    fn arg_names(&self, list: ItemList, place: usize) -> &'a [&'a [u8]]
-        ensures { bytes result.now ≡ arg_names (slice_index_or (form_meant self.now).args place blank_arg) list }
-    {
-        if place < self.args.len() {
-            row_at(self.args, place).names(list)
-        } else {
-            &[]
-        }
-    }
-
-    fn group_names(&self, list: ItemList, place: usize) -> &'a [&'a [u8]]
-        ensures { bytes result.now ≡ group_names (slice_index_or (form_meant self.now).groups place blank_group) list }
-    {
-        if place < self.groups.len() {
-            row_at(self.groups, place).names(list)
-        } else {
-            &[]
-        }
-    }
-
-    fn subcommand_names(&self, list: ItemList, place: usize) -> &'a [&'a [u8]]
-        ensures { bytes result.now ≡ subcommand_names (slice_index_or (form_meant self.now).subcommands place blank_subcommand) list }
-    {
-        if place < self.subcommands.len() {
-            row_at(self.subcommands, place).names(list)
-        } else {
-            &[]
-        }
-    }
-
-    fn arg_letters(&self, list: ItemList, place: usize) -> &'a [char]
-        ensures { result.now ≡ arg_letters (slice_index_or (form_meant self.now).args place blank_arg) list }
-    {
-        if place < self.args.len() {
-            row_at(self.args, place).letters(list)
-        } else {
-            &[]
-        }
-    }
-
-    fn subcommand_letters(&self, list: ItemList, place: usize) -> &'a [char]
-        ensures { result.now ≡ subcommand_letters (slice_index_or (form_meant self.now).subcommands place blank_subcommand) list }
-    {
-        if place < self.subcommands.len() {
-            row_at(self.subcommands, place).letters(list)
-        } else {
-            &[]
-        }
-    }
-
-    // the names of the list of the entry at the place
     fn names(&self, list: ItemList, place: usize) -> &'a [&'a [u8]]
         ensures { bytes result.now ≡ names_at (form_meant self.now) list place }
     {
         match list.owner() {
-            EntryKind::Argument => self.arg_names(list, place),
-            EntryKind::Group => self.group_names(list, place),
-            EntryKind::Subcommand => self.subcommand_names(list, place),
+            EntryKind::Argument => names_in(self.tables.args, list, place),
+            EntryKind::Group => names_in(self.tables.groups, list, place),
+            EntryKind::Subcommand => names_in(self.tables.subcommands, list, place),
         }
     }
 
-    // the letters of the list of the entry at the place
     fn letters(&self, list: ItemList, place: usize) -> &'a [char]
         ensures { result.now ≡ letters_at (form_meant self.now) list place }
     {
         match list.owner() {
-            EntryKind::Argument => self.arg_letters(list, place),
-            EntryKind::Group => &[],
-            EntryKind::Subcommand => self.subcommand_letters(list, place),
+            EntryKind::Argument => letters_in(self.tables.args, list, place),
+            EntryKind::Group => letters_in(self.tables.groups, list, place),
+            EntryKind::Subcommand => letters_in(self.tables.subcommands, list, place),
         }
     }
 }
@@ -107,7 +40,7 @@ impl FormSource for TableForm<'_, '_> {
     ghost fits = { λ s. within_fits (form_meant s) s.fits };
 
     fn settings(&self) -> AppFlags {
-        self.settings
+        self.tables.settings
     }
 
     fn is_cut(&self) -> bool {
@@ -115,39 +48,36 @@ impl FormSource for TableForm<'_, '_> {
     }
 
     fn arg_count(&self) -> usize {
-        self.args.len()
+        self.tables.args.len()
     }
 
     fn group_count(&self) -> usize {
-        self.groups.len()
+        self.tables.groups.len()
     }
 
     fn subcommand_count(&self) -> usize {
-        self.subcommands.len()
+        self.tables.subcommands.len()
     }
 
     fn arg(&self, place: usize) -> ArgView<'_> {
-        if place < self.args.len() {
-            row_at(self.args, place).arg
-        } else {
-            ArgView::new(b"")
-        }
+        self.tables
+            .args
+            .get(place)
+            .map_or(ArgView::new(b""), |row| row.arg)
     }
 
     fn group(&self, place: usize) -> GroupView<'_> {
-        if place < self.groups.len() {
-            row_at(self.groups, place).group
-        } else {
-            GroupView { id: b"" }
-        }
+        self.tables
+            .groups
+            .get(place)
+            .map_or(GroupView { id: b"" }, |row| row.group)
     }
 
     fn subcommand(&self, place: usize) -> SubcommandView<'_> {
-        if place < self.subcommands.len() {
-            row_at(self.subcommands, place).subcommand
-        } else {
-            SubcommandView::new(b"")
-        }
+        self.tables
+            .subcommands
+            .get(place)
+            .map_or(SubcommandView::new(b""), |row| row.subcommand)
     }
 
     fn name_count(&self, list: ItemList, place: usize) -> usize {
@@ -155,7 +85,11 @@ impl FormSource for TableForm<'_, '_> {
     }
 
     fn name(&self, list: ItemList, place: usize, item: usize) -> &[u8] {
-        name_in(self.names(list, place), item)
+        let names = self.names(list, place);
+        match names.get(item) {
+            Some(name) => name,
+            None => b"",
+        }
     }
 
     fn letter_count(&self, list: ItemList, place: usize) -> usize {
@@ -164,11 +98,7 @@ impl FormSource for TableForm<'_, '_> {
 
     fn letter(&self, list: ItemList, place: usize, item: usize) -> char {
         let letters = self.letters(list, place);
-        if item < letters.len() {
-            letters[item]
-        } else {
-            '\0'
-        }
+        letters.get(item).copied().unwrap_or('\0')
     }
 }
 
@@ -177,7 +107,7 @@ impl Keyed for TableForm<'_, '_> {
         count_keys(self)
     }
 
-    fn key(&self, i: usize) -> Option<Key<'_>> {
+    fn key(&self, i: usize) -> Option<Key<&[u8]>> {
         key_at(self, i)
     }
 }

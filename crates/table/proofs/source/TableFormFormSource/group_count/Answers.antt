@@ -1,7 +1,0 @@
-use Rattle.std.proofs.Common.{sym}
-use Rattle.std.proofs.lemmas.List.{length-map}
-use Rattle.table.specs.Entries.{group_of}
-use Rattle.table.proofs.source.TableFormFormSource.group_count.Goals as goal
-
-pub returns : goal.returns
-returns c = sym (length-map c.args.self.now.groups.now group_of)
