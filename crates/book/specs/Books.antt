@@ -4,7 +4,7 @@ use Rattle.std.specs.Option.{option_map}
 use Rattle.std.specs.List.{slice_get}
 use Rattle.std.proofs.Common.{sym, ap, ◌∙◌}
 use Rattle.std.proofs.lemmas.List.{length-map}
-use Rattle.book_tables.proofs.Places.{got_of}
+use Rattle.std.proofs.lemmas.Option.{slice_get-map}
 use Rattle.form.specs.Keys.{keys_of}
 use Rattle.form.specs.Model.{Form}
 use Rattle.form.specs.Limits.{Fits}
@@ -37,7 +37,7 @@ pub built_keys : (b : BuiltBook) → map key_held (vec_items b.keys.list) ≡ ke
 built_keys b = keys_same (map key_held (vec_items b.keys.list)) (keys_of (built_form b)) b.keyed
 
 pub key_shown : (b : BuiltBook) (i : ℕ) → option_map key_held (slice_get (vec_items b.keys.list) i) ≡ slice_get (keys_of (built_form b)) i
-key_shown b i = sym (got_of key_held (vec_items b.keys.list) i) ∙ ap (λ ks. slice_get ks i) (built_keys b)
+key_shown b i = sym (slice_get-map key_held (vec_items b.keys.list) i) ∙ ap (λ ks. slice_get ks i) (built_keys b)
 
 pub keys_counted : (b : BuiltBook) → length (vec_items b.keys.list) ≡ length (keys_of (built_form b))
 keys_counted b = sym (length-map (vec_items b.keys.list) key_held) ∙ ap length (built_keys b)

@@ -2,7 +2,9 @@
 use Rattle.std.proofs.Common.{◌≡◌, ℕ, zero, suc, Bool, true, false, cond, ◌&&◌, List, [], ◌∷◌, map, length, get_or, filter, Some, None, refl, sym, ap, ◌∙◌, arith}
 use Rattle.std.specs.List.{slice_get}
 use Rattle.std.specs.Option.{option_map}
-use Rattle.std.proofs.lemmas.List.{length-map}
+use Rattle.std.proofs.lemmas.List.{length-map, map-id}
+use Rattle.std.proofs.lemmas.Option.{slice_get-map}
+use Rattle.std.proofs.lemmas.Simd.{map-map}
 use Rattle.form.specs.Model.{Name, blank_arg, blank_group, blank_subcommand}
 use Rattle.form.specs.Lists.{list_sort, names_at, letters_at}
 use Rattle.form.specs.declared.lists.ItemSort.TheVariants as sort
@@ -12,26 +14,18 @@ use Rattle.calls.specs.Marked.{Marked, MarkedForm, ItemOf, name_item, letter_ite
 use Rattle.calls.specs.Calls.{same_sort, sort_of}
 use Rattle.book_tables.specs.declared.held.ItemRow.{ItemRow}
 use Rattle.book_tables.specs.Held.{row_held, item_held}
+use Rattle.book_tables.proofs.Alters.{map_kept_by}
 use Rattle.book_tables.specs.Rows.{named, lettered, row_adds, items_of, items_at, under}
 
 -- the items of the held rows are those of what the rows mean
 kept_of : {X Y Z : Type 0} (f : X → Y) (p : Y → Bool) (g : Y → Z) (xs : List X) → map g (filter p (map f xs)) ≡ map (λ x. g (f x)) (filter (λ x. p (f x)) xs)
-kept_of f p g [] = refl
-kept_of {X} {Y} {Z} f p g (x ∷ xs) =
-    let P : Bool → Type 0 = λ t. map g (cond t (f x ∷ filter p (map f xs)) (filter p (map f xs))) ≡ map (λ x. g (f x)) (cond t (x ∷ filter (λ x. p (f x)) xs) (filter (λ x. p (f x)) xs)) in
-    let r = kept_of f p g xs in
-    elim (p (f x)) as P [ true ↦ ap (λ l. g (f x) ∷ l) r | false ↦ r ]
+kept_of f p g xs = ap (map g) (sym (map_kept_by f p xs)) ∙ map-map g f (filter (λ x. p (f x)) xs)
 
 pub items_counted : (k : ℕ) (l : ItemList) (rs : List ItemRow) → length (items_of k l (map row_held rs)) ≡ length (filter (λ r. row_adds k l (row_held r)) rs)
 items_counted k l rs = ap length (kept_of row_held (row_adds k l) (λ r. r.item) rs) ∙ length-map (filter (λ r. row_adds k l (row_held r)) rs) _
 
-pub got_of : {X Y : Type 0} (f : X → Y) (xs : List X) (n : ℕ) → slice_get (map f xs) n ≡ option_map f (slice_get xs n)
-got_of f [] n = refl
-got_of f (x ∷ xs) zero = refl
-got_of f (x ∷ xs) (suc n) = got_of f xs n
-
 pub item_shown : (k : ℕ) (l : ItemList) (rs : List ItemRow) (n : ℕ) → slice_get (items_of k l (map row_held rs)) n ≡ option_map (λ r. item_held r.item) (slice_get (filter (λ r. row_adds k l (row_held r)) rs) n)
-item_shown k l rs n = ap (λ is. slice_get is n) (kept_of row_held (row_adds k l) (λ r. r.item) rs) ∙ got_of (λ (r : ItemRow). item_held r.item) _ n
+item_shown k l rs n = ap (λ is. slice_get is n) (kept_of row_held (row_adds k l) (λ r. r.item) rs) ∙ slice_get-map (λ (r : ItemRow). item_held r.item) _ n
 
 -- an item that is there, and one past the end
 pub found_at : {X Y : Type 0} (f : X → Y) (d : Y) (xs : List X) (n : ℕ) (x : X) → Some x ≡ slice_get xs n → f x ≡ get_or (map f xs) n d
@@ -87,15 +81,11 @@ module _ {X : Type 0} (see : ItemOf → X) where
       let adds : row_adds k l r ≡ (is_of k l r && same_sort sort.Letter (sort_of r.item)) = ap (λ s. is_of k l r && same_sort s (sort_of r.item)) is in
       one_letter (is_of k l r) r.item _ _ (letters_seen k l rs is) ∙ ap (map see) (ap (λ t. cond t (r.item ∷ items_of k l rs) (items_of k l rs)) (sym adds) ∙ sym (more_items k l r rs))
 
-itself : {X : Type 0} (xs : List X) → map (λ x. x) xs ≡ xs
-itself [] = refl
-itself (x ∷ xs) = ap (λ l. x ∷ l) (itself xs)
-
 names_items : (k : ℕ) (l : ItemList) (rs : List Row) → list_sort l ≡ sort.Name → names_in k l rs ≡ map named (items_of k l rs)
-names_items k l rs is = sym (itself (names_in k l rs)) ∙ names_seen named k l rs is
+names_items k l rs is = sym (map-id (names_in k l rs)) ∙ names_seen named k l rs is
 
 letters_items : (k : ℕ) (l : ItemList) (rs : List Row) → list_sort l ≡ sort.Letter → letters_in k l rs ≡ map lettered (items_of k l rs)
-letters_items k l rs is = sym (itself (letters_in k l rs)) ∙ letters_seen lettered k l rs is
+letters_items k l rs is = sym (map-id (letters_in k l rs)) ∙ letters_seen lettered k l rs is
 
 -- a list of the entry at a place: the items under the mark there
 at_mark : {X E N : Type 0} (entry : Marked X → E) (es : List (Marked X)) (p : ℕ) (d : E) (list : E → List N) (see : ItemOf → N) (items : ℕ → List ItemOf)
