@@ -1,7 +1,8 @@
+use super::style::Style;
 use super::text::Text;
-use super::words::{SENTENCES, kind_letter, kind_word, list_word};
+use super::words::{kind_letter, kind_word, list_word, sentence};
 use form::{EntryKind, FormSource, ItemList, ItemSort};
-use rules::{Breach, Entry};
+use rules::{Breach, Entry, Rule};
 use std::fmt;
 use std::fmt::Write;
 
@@ -10,24 +11,35 @@ pub fn say_report<F: FormSource, W: Write>(
     out: &mut W,
     form: &F,
     breaches: &[Breach],
-    plain: bool,
+    style: Style,
 ) -> fmt::Result {
-    let count = breaches.len();
-    if plain {
-        writeln!(out, "breaches {count}")?;
-    } else {
-        match count {
-            0 => writeln!(out, "no breaches")?,
-            1 => writeln!(out, "1 breach:")?,
-            _ => writeln!(out, "{count} breaches:")?,
-        }
+    match style {
+        Style::Plain => say_plain_report(out, breaches),
+        Style::Words => say_sentences(out, form, breaches),
+    }
+}
+
+/// `breaches N`, and each breach as a line of its own.
+pub fn say_plain_report<W: Write>(out: &mut W, breaches: &[Breach]) -> fmt::Result {
+    writeln!(out, "breaches {}", breaches.len())?;
+    for breach in breaches {
+        say_plain_breach(out, breach)?;
+    }
+    Ok(())
+}
+
+fn say_sentences<F: FormSource, W: Write>(
+    out: &mut W,
+    form: &F,
+    breaches: &[Breach],
+) -> fmt::Result {
+    match breaches.len() {
+        0 => writeln!(out, "no breaches")?,
+        1 => writeln!(out, "1 breach:")?,
+        count => writeln!(out, "{count} breaches:")?,
     }
     for breach in breaches {
-        if plain {
-            say_plain_breach(out, breach)?;
-        } else {
-            say_breach(out, form, breach)?;
-        }
+        say_breach(out, form, breach)?;
     }
     Ok(())
 }
@@ -35,26 +47,24 @@ pub fn say_report<F: FormSource, W: Write>(
 /// `RULE FIRST SECOND LIST ITEM ITEM`, entries as `a0`, `g1`, `s2` or `-`.
 pub fn say_plain_breach<W: Write>(out: &mut W, breach: &Breach) -> fmt::Result {
     let rule = breach.rule.number();
-    write!(out, "{rule} ")?;
-    say_place(out, breach.first)?;
-    say_place(out, breach.second)?;
-    let list = match breach.list {
-        Some(l) => l.number(),
-        None => 0,
-    };
+    let first = Place(breach.first);
+    let second = Place(breach.second);
+    let list = breach.list.map_or(0, |list| list.number());
     let item = breach.item;
     let other = breach.other;
-    writeln!(out, "{list} {item} {other}")
+    writeln!(out, "{rule} {first} {second} {list} {item} {other}")
 }
 
-fn say_place<W: Write>(out: &mut W, entry: Option<Entry>) -> fmt::Result {
-    match entry {
-        Some(e) => {
-            let letter = kind_letter(e.kind);
-            let place = e.place;
-            write!(out, "{letter}{place} ")
+// an entry by its kind and place
+#[derive(Clone, Copy)]
+struct Place(Option<Entry>);
+
+impl fmt::Display for Place {
+    fn fmt<W: Write>(&self, f: &mut fmt::Formatter<W>) -> fmt::Result {
+        match self.0 {
+            Some(entry) => write!(f, "{}{}", kind_letter(entry.kind), entry.place),
+            None => write!(f, "-"),
         }
-        None => write!(out, "- "),
     }
 }
 
@@ -69,8 +79,7 @@ pub fn say_breach<F: FormSource, W: Write>(out: &mut W, form: &F, breach: &Breac
         }
         write!(out, ": ")?;
     }
-    let sentence = SENTENCES.get(usize::from(rule)).copied().unwrap_or("");
-    write!(out, "{sentence}")?;
+    write!(out, "{}", sentence(breach.rule))?;
     if let Some(e) = breach.second {
         write!(out, " (")?;
         say_entry(out, form, e)?;
@@ -80,13 +89,16 @@ pub fn say_breach<F: FormSource, W: Write>(out: &mut W, form: &F, breach: &Breac
     writeln!(out, "")
 }
 
-// the item numbers where they tell more than the words: the bit of rule 16, the flags of rules 36 to 39
+// the item numbers where they tell more than the words: a settings bit, or two flags
 fn say_numbers<W: Write>(out: &mut W, breach: &Breach) -> fmt::Result {
     let item = breach.item;
     let other = breach.other;
-    match breach.rule.number() {
-        16 => write!(out, " (settings bit {item})"),
-        36..=39 => write!(out, " (flag {item} and flag {other})"),
+    match breach.rule {
+        Rule::SettingWithoutValue => write!(out, " (settings bit {item})"),
+        Rule::SameLongFlag
+        | Rule::SameLetterFlag
+        | Rule::SubcommandNameTaken
+        | Rule::SubcommandAliasTaken => write!(out, " (flag {item} and flag {other})"),
         _ => Ok(()),
     }
 }

@@ -18,8 +18,7 @@ impl<'a> Text<'a> {
 
 impl fmt::Display for Text<'_> {
     fn fmt<W: fmt::Write>(&self, f: &mut fmt::Formatter<W>) -> fmt::Result {
-        for b in self.bytes {
-            let byte = *b;
+        for &byte in self.bytes {
             if byte.is_ascii_graphic() && byte != b'\\' || byte == b' ' {
                 write!(f, "{}", byte as char)?;
             } else {

@@ -1,32 +1,23 @@
 use super::breaches::say_report;
+use super::style::Style;
 use form::{AppFlags, ArgAction, ArgFlags, ArgView, FormSource, Keyed, ValueRange};
 use layers::StandardFlags;
 use report::report;
-use rules::{Breach, Rule};
+use rules::Breach;
 use std::fmt;
 use std::fmt::Write;
 use table::{ArgRow, GroupRow, SubcommandRow, TableForm};
 
-/// What an unused place of a list holds.
-const UNUSED: Breach = Breach {
-    rule: Rule::FormCut,
-    first: None,
-    second: None,
-    list: None,
-    item: 0,
-    other: 0,
-};
-
-/// How many breaches a list of the tour has room for.
+/// How many breaches a list of the tour has room for. A list of fixed room needs no heap, as `report_all` would.
 const ROOM: usize = 64;
 
 /// Says the reports of some sample definitions, each alone and under the standard flags.
-pub fn say_tour<W: Write>(out: &mut W, plain: bool) -> fmt::Result {
-    say_incident(out, plain)?;
-    say_mended(out, plain)?;
-    say_gap(out, plain)?;
-    say_taken_help(out, plain)?;
-    say_trailing(out, plain)
+pub fn say_tour<W: Write>(out: &mut W, style: Style) -> fmt::Result {
+    say_incident(out, style)?;
+    say_mended(out, style)?;
+    say_gap(out, style)?;
+    say_taken_help(out, style)?;
+    say_trailing(out, style)
 }
 
 // a flag without values
@@ -77,7 +68,7 @@ fn position(id: &'static [u8], index: u16, settings: u16) -> ArgRow<'static> {
 }
 
 // a conflict that names a subcommand only
-fn say_incident<W: Write>(out: &mut W, plain: bool) -> fmt::Result {
+fn say_incident<W: Write>(out: &mut W, style: Style) -> fmt::Result {
     let args = [commit()];
     let groups: [GroupRow<'static>; 0] = [];
     let subcommands: [SubcommandRow<'static>; 1] = [SubcommandRow::new(b"unpaid")];
@@ -86,28 +77,28 @@ fn say_incident<W: Write>(out: &mut W, plain: bool) -> fmt::Result {
         out,
         "commit conflicts with unpaid, which is only a subcommand",
         &form,
-        plain,
+        style,
     )
 }
 
 // the same with a group of that name
-fn say_mended<W: Write>(out: &mut W, plain: bool) -> fmt::Result {
+fn say_mended<W: Write>(out: &mut W, style: Style) -> fmt::Result {
     let args = [commit(), draft()];
     let groups = [unpaid()];
     let subcommands: [SubcommandRow<'static>; 1] = [SubcommandRow::new(b"pay")];
     let form = TableForm::new(AppFlags::from_bits(0), &args, &groups, &subcommands);
-    say_both(out, "commit conflicts with the group unpaid", &form, plain)
+    say_both(out, "commit conflicts with the group unpaid", &form, style)
 }
 
 // positions 1 and 3
-fn say_gap<W: Write>(out: &mut W, plain: bool) -> fmt::Result {
+fn say_gap<W: Write>(out: &mut W, style: Style) -> fmt::Result {
     let args = [position(b"from", 1, 0), position(b"to", 3, 0)];
     let form = TableForm::of_args(AppFlags::from_bits(0x40), &args);
-    say_both(out, "positions 1 and 3, and a version", &form, plain)
+    say_both(out, "positions 1 and 3, and a version", &form, style)
 }
 
 // a letter and a long name that the standard flags have too
-fn say_taken_help<W: Write>(out: &mut W, plain: bool) -> fmt::Result {
+fn say_taken_help<W: Write>(out: &mut W, style: Style) -> fmt::Result {
     let view = ArgView {
         long: Some(b"help"),
         letter: Some('h'),
@@ -119,34 +110,34 @@ fn say_taken_help<W: Write>(out: &mut W, plain: bool) -> fmt::Result {
         ..ArgRow::new(b"host")
     }];
     let form = TableForm::of_args(AppFlags::from_bits(0), &args);
-    say_both(out, "host has -h and --help", &form, plain)
+    say_both(out, "host has -h and --help", &form, style)
 }
 
 // a trailing argument of one value, marked last
-fn say_trailing<W: Write>(out: &mut W, plain: bool) -> fmt::Result {
+fn say_trailing<W: Write>(out: &mut W, style: Style) -> fmt::Result {
     let args = [position(b"files", 1, 0x300)];
     let form = TableForm::of_args(AppFlags::from_bits(0), &args);
     say_both(
         out,
         "files is trailing and last, with one value",
         &form,
-        plain,
+        style,
     )
 }
 
-fn say_both<K: Keyed, W: Write>(out: &mut W, title: &str, form: &K, plain: bool) -> fmt::Result {
+fn say_both<K: Keyed, W: Write>(out: &mut W, title: &str, form: &K, style: Style) -> fmt::Result {
     writeln!(out, "form: {title}")?;
-    say_sample(out, form, plain)?;
+    say_sample(out, form, style)?;
     let flagged = StandardFlags::new(form);
     writeln!(out, "with standard flags")?;
-    say_sample(out, &flagged, plain)
+    say_sample(out, &flagged, style)
 }
 
-fn say_sample<F: FormSource, W: Write>(out: &mut W, form: &F, plain: bool) -> fmt::Result {
-    let mut list = [UNUSED; ROOM];
+fn say_sample<F: FormSource, W: Write>(out: &mut W, form: &F, style: Style) -> fmt::Result {
+    let mut list = [Breach::UNUSED; ROOM];
     match report(form, &mut list) {
         Ok(count) => match list.get(0..count) {
-            Some(breaches) => say_report(out, form, breaches, plain),
+            Some(breaches) => say_report(out, form, breaches, style),
             None => Ok(()),
         },
         Err(short) => {

@@ -2,7 +2,7 @@ use super::failure::Failure;
 use super::files::read_file;
 use super::options::{Options, read_options};
 use super::usage::USAGE;
-use console::{say_ranges, say_tour};
+use console::{Style, say_ranges, say_tour};
 use std::env;
 
 /// Does what the words after the program's name ask for.
@@ -15,7 +15,7 @@ pub fn run(rt: &HostRuntime) -> Result<(), Failure> {
     let options = read_options(rt.alloc(), words)?;
     match command.as_str() {
         "ranges" => ranges(rt, &options),
-        "tour" => print_tour(rt, options.plain),
+        "tour" => print_tour(rt, options.style),
         "samples" => samples(rt),
         "help" | "--help" | "-h" => help(rt),
         other => {
@@ -36,20 +36,20 @@ fn ranges(rt: &HostRuntime, options: &Options) -> Result<(), Failure> {
     let Some(file) = options.only_file() else {
         return Err(Failure::Misused("`desk ranges` takes one file, or - for standard input"));
     };
-    print_ranges(rt, file, options.plain)
+    print_ranges(rt, file, options.style)
 }
 
-fn print_ranges(rt: &HostRuntime, file: &str, plain: bool) -> Result<(), Failure> {
+fn print_ranges(rt: &HostRuntime, file: &str, style: Style) -> Result<(), Failure> {
     let input = read_file(rt, file)?;
     let mut out = String::new(rt.alloc());
-    let _ = say_ranges(&mut out, &input, plain)?;
+    let _ = say_ranges(&mut out, &input, style)?;
     rt.print(out)?;
     Ok(())
 }
 
-fn print_tour(rt: &HostRuntime, plain: bool) -> Result<(), Failure> {
+fn print_tour(rt: &HostRuntime, style: Style) -> Result<(), Failure> {
     let mut out = String::new(rt.alloc());
-    say_tour(&mut out, plain)?;
+    say_tour(&mut out, style)?;
     rt.print(out)?;
     Ok(())
 }
@@ -57,11 +57,11 @@ fn print_tour(rt: &HostRuntime, plain: bool) -> Result<(), Failure> {
 // Each command on the samples that come with the program.
 fn samples(rt: &HostRuntime) -> Result<(), Failure> {
     println!(rt; "$ desk ranges samples/ranges.txt")?;
-    print_ranges(rt, "samples/ranges.txt", false)?;
+    print_ranges(rt, "samples/ranges.txt", Style::Words)?;
     println!(rt; "$ desk ranges --plain samples/ranges.txt")?;
-    print_ranges(rt, "samples/ranges.txt", true)?;
+    print_ranges(rt, "samples/ranges.txt", Style::Plain)?;
     println!(rt; "$ desk tour")?;
-    print_tour(rt, false)?;
+    print_tour(rt, Style::Words)?;
     println!(rt; "$ desk tour --plain")?;
-    print_tour(rt, true)
+    print_tour(rt, Style::Plain)
 }
