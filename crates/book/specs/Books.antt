@@ -1,5 +1,10 @@
 -- What a book means, open or built.
-use Rattle.std.specs.Prelude.{◌≡◌, map, vec_items}
+use Rattle.std.specs.Prelude.{◌≡◌, ℕ, map, length, vec_items}
+use Rattle.std.specs.Option.{option_map}
+use Rattle.std.specs.List.{slice_get}
+use Rattle.std.proofs.Common.{sym, ap, ◌∙◌}
+use Rattle.std.proofs.lemmas.List.{length-map}
+use Rattle.std.proofs.lemmas.Option.{slice_get-map}
 use Rattle.form.specs.Keys.{keys_of}
 use Rattle.form.specs.Model.{Form}
 use Rattle.form.specs.Limits.{Fits}
@@ -28,5 +33,11 @@ pub built_fits : (b : BuiltBook) → Fits (built_form b)
 built_fits b = book_fits b.tables
 
 -- the keys that it stores are those of its form
-pub built_keys : (b : BuiltBook) → map key_held (vec_items b.keys) ≡ keys_of (built_form b)
-built_keys b = keys_same (map key_held (vec_items b.keys)) (keys_of (built_form b)) b.keyed
+pub built_keys : (b : BuiltBook) → map key_held (vec_items b.keys.list) ≡ keys_of (built_form b)
+built_keys b = keys_same (map key_held (vec_items b.keys.list)) (keys_of (built_form b)) b.keyed
+
+pub key_shown : (b : BuiltBook) (i : ℕ) → option_map key_held (slice_get (vec_items b.keys.list) i) ≡ slice_get (keys_of (built_form b)) i
+key_shown b i = sym (slice_get-map key_held (vec_items b.keys.list) i) ∙ ap (λ ks. slice_get ks i) (built_keys b)
+
+pub keys_counted : (b : BuiltBook) → length (vec_items b.keys.list) ≡ length (keys_of (built_form b))
+keys_counted b = sym (length-map (vec_items b.keys.list) key_held) ∙ ap length (built_keys b)

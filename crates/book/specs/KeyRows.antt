@@ -1,19 +1,24 @@
 -- What the stored keys of a book mean.
 use Rattle.std.specs.Prelude.{ℕ}
 use Rattle.form.specs.NameBytes.{name_bytes}
-use Rattle.form.specs.Keys.{KeyName, Key, position, letter, long}
-use Rattle.book.specs.declared.key_rows.HeldKey.{HeldKey}
-use Rattle.book.specs.declared.key_rows.HeldKey.TheVariants.{Position, Short, Long}
-use Rattle.book.specs.declared.key_rows.KeyRow.{KeyRow}
+use Rattle.form.specs.Keys.{KeyName, letter, long, Key}
+use Rattle.form.specs.Shown.{key_told, key_of}
+use Rattle.form.specs.declared.name.Name.{Name}
+use Rattle.form.specs.declared.views.KeyType.{KeyType}
+use Rattle.form.specs.declared.views.Key.{Key as HeldKey}
+use Rattle.calls.specs.Marked.{ItemOf, name_item, letter_item}
 
-abbrev pub key_named : HeldKey → KeyName
-key_named (Position i) = position i
-key_named (Short c) = letter c
-key_named (Long x) = long (name_bytes x)
+abbrev pub key_named : KeyType Name → KeyName
+key_named k = key_told name_bytes k
 
-abbrev pub key_held : KeyRow → Key
-key_held k = record { name = key_named k.name; place = k.place }
+abbrev pub key_held : HeldKey Name → Key
+key_held k = key_of name_bytes k
 
 -- the key of the argument at the place
 abbrev pub keyed_at : ℕ → KeyName → Key
 keyed_at p k = record { name = k; place = p }
+
+-- by what an alias finds its argument
+abbrev pub alias_key : ItemOf → KeyName
+alias_key (name_item x) = long x
+alias_key (letter_item c) = letter c

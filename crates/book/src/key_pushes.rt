@@ -1,90 +1,76 @@
-ghost use Rattle.std.specs.Prelude.{◌≡◌, ◌+◌, ◌<◌, ◌≤◌, [], ◌∷◌, ◌++◌, map, length, vec_len, vec_capacity};
+ghost use Rattle.std.specs.Prelude.{◌≡◌, ◌+◌, ◌<◌, ◌≤◌, [], ◌∷◌, ◌++◌, map, length};
 ghost use Rattle.std.specs.Option.{option_map};
-ghost use Rattle.form.specs.NameBytes.{name_bytes};
-ghost use Rattle.form.specs.Keys.{letter as letter_key, long as long_key, listed, arg_keys, keys_from};
-ghost use Rattle.form.specs.declared.lists.ItemList.TheVariants.{LetterAliases, LongAliases};
-ghost use Rattle.calls.specs.Marked.{names_in, letters_in, arg_entry};
-ghost use Rattle.book_tables.specs.Held.{held, arg_held, row_held};
-ghost use Rattle.book.specs.KeyRows.{key_named, key_held, keyed_at};
+ghost use Rattle.form.specs.Keys.{listed, arg_keys, keys_from};
+ghost use Rattle.calls.specs.Marked.{arg_entry};
+ghost use Rattle.book_tables.specs.Held.{held, arg_held, item_held, row_held};
+ghost use Rattle.book_tables.specs.Rows.{items_of};
+ghost use Rattle.book.specs.KeyRows.{key_named, key_held, keyed_at, alias_key};
 
-use super::key_rows::{HeldKey, KeyRow};
-use book_tables::{ArgHeld, Held, ItemRow};
-use form::{ItemList, Name};
+use super::states::Keys;
+use book_tables::{Held, HeldItem, ItemRow};
+use form::{ArgOf, ItemList, Key, KeyType, Name};
+
+// by what an alias finds its argument
+fn alias_key(item: HeldItem) -> KeyType<Name>
+    ensures { key_named result ≡ alias_key (item_held item) }
+{
+    match item {
+        HeldItem::Name(name) => KeyType::Long(name),
+        HeldItem::Letter(letter) => KeyType::Short(letter),
+    }
+}
 
 // one more key of the argument at the place
-fn push_key(keys: &mut Vec<KeyRow>, name: HeldKey, place: usize)
-    requires { vec_len keys.old < vec_capacity keys.old }
-    ensures items { map key_held keys.new.items ≡ map key_held keys.old.items ++ keyed_at place (key_named name) ∷ [] }
-    ensures capacity { vec_capacity keys.new ≡ vec_capacity keys.old }
+fn push_key(keys: &mut Keys, name: KeyType<Name>, place: usize)
+    requires { length keys.old.list.items < 640 }
+    ensures { map key_held keys.new.list.items ≡ map key_held keys.old.list.items ++ keyed_at place (key_named name) ∷ [] }
 {
-    keys.push_reserved(KeyRow { name, place });
+    keys.push(Key { name, place });
 }
 
-// the key of a letter, where there is one
-fn push_letter(keys: &mut Vec<KeyRow>, letter: Option<char>, place: usize)
-    requires { vec_len keys.old + length (listed letter) ≤ vec_capacity keys.old }
-    ensures items { map key_held keys.new.items ≡ map key_held keys.old.items ++ map (keyed_at place) (map letter_key (listed letter)) }
-    ensures capacity { vec_capacity keys.new ≡ vec_capacity keys.old }
+// the same where there is a key
+fn push_some(keys: &mut Keys, name: Option<KeyType<Name>>, place: usize)
+    requires { length keys.old.list.items + length (listed (option_map key_named name)) ≤ 640 }
+    ensures { map key_held keys.new.list.items ≡ map key_held keys.old.list.items ++ map (keyed_at place) (listed (option_map key_named name)) }
 {
-    if let Some(letter) = letter {
-        push_key(keys, HeldKey::Short(letter), place);
+    if let Some(name) = name {
+        push_key(keys, name, place);
     }
 }
 
-// the key of a long name, where there is one
-fn push_long(keys: &mut Vec<KeyRow>, long: Option<Name>, place: usize)
-    requires { vec_len keys.old + length (listed (option_map name_bytes long)) ≤ vec_capacity keys.old }
-    ensures items { map key_held keys.new.items ≡ map key_held keys.old.items ++ map (keyed_at place) (map long_key (listed (option_map name_bytes long))) }
-    ensures capacity { vec_capacity keys.new ≡ vec_capacity keys.old }
-{
-    if let Some(long) = long {
-        push_key(keys, HeldKey::Long(long), place);
-    }
-}
-
-// the keys of the letter aliases of the marked argument
-fn push_letters(keys: &mut Vec<KeyRow>, rows: &[ItemRow], mark: u16, place: usize)
-    requires { vec_len keys.old + length (letters_in mark LetterAliases (map row_held rows.now)) ≤ vec_capacity keys.old }
-    ensures items { map key_held keys.new.items ≡ map key_held keys.old.items ++ map (keyed_at place) (map letter_key (letters_in mark LetterAliases (map row_held rows.now))) }
-    ensures capacity { vec_capacity keys.new ≡ vec_capacity keys.old }
+// the keys of the aliases that the marked argument has in the list
+fn push_aliases(keys: &mut Keys, rows: &[ItemRow], mark: u16, list: ItemList, place: usize)
+    requires { length keys.old.list.items + length (items_of mark list (map row_held rows.now)) ≤ 640 }
+    ensures { map key_held keys.new.list.items ≡ map key_held keys.old.list.items ++ map (keyed_at place) (map alias_key (items_of mark list (map row_held rows.now))) }
 {
     for row in rows {
-        push_letter(keys, row.letter_in(mark, ItemList::LetterAliases), place);
-    }
-}
-
-// the keys of the long aliases of the marked argument
-fn push_longs(keys: &mut Vec<KeyRow>, rows: &[ItemRow], mark: u16, place: usize)
-    requires { vec_len keys.old + length (names_in mark LongAliases (map row_held rows.now)) ≤ vec_capacity keys.old }
-    ensures items { map key_held keys.new.items ≡ map key_held keys.old.items ++ map (keyed_at place) (map long_key (names_in mark LongAliases (map row_held rows.now))) }
-    ensures capacity { vec_capacity keys.new ≡ vec_capacity keys.old }
-{
-    for row in rows {
-        push_long(keys, row.held_name(mark, ItemList::LongAliases), place);
+        if row.adds_to(mark, list) {
+            push_key(keys, alias_key(row.item), place);
+        }
     }
 }
 
 // the keys of the argument at the place
-fn push_arg(keys: &mut Vec<KeyRow>, arg: &Held<ArgHeld>, rows: &[ItemRow], place: usize)
-    requires { vec_len keys.old + length (arg_keys place (arg_entry (map row_held rows.now) (held arg_held arg.now))) ≤ vec_capacity keys.old }
-    ensures items { map key_held keys.new.items ≡ map key_held keys.old.items ++ arg_keys place (arg_entry (map row_held rows.now) (held arg_held arg.now)) }
-    ensures capacity { vec_capacity keys.new ≡ vec_capacity keys.old }
+fn push_arg(keys: &mut Keys, arg: &Held<ArgOf<Name>>, rows: &[ItemRow], place: usize)
+    requires { length keys.old.list.items + length (arg_keys place (arg_entry (map row_held rows.now) (held arg_held arg.now))) ≤ 640 }
+    ensures { map key_held keys.new.list.items ≡ map key_held keys.old.list.items ++ arg_keys place (arg_entry (map row_held rows.now) (held arg_held arg.now)) }
 {
-    if let Some(index) = arg.of.index {
-        push_key(keys, HeldKey::Position(index), place);
+    let of = &arg.of;
+    if let Some(index) = of.index {
+        push_key(keys, KeyType::Position(index), place);
         return;
     }
-    push_letter(keys, arg.of.letter, place);
-    push_long(keys, arg.of.long, place);
-    push_letters(keys, rows, arg.mark, place);
-    push_longs(keys, rows, arg.mark, place);
+    push_some(keys, of.letter.map(|letter| KeyType::Short(letter)), place);
+    push_some(keys, of.long.map(|long| KeyType::Long(long)), place);
+    push_aliases(keys, rows, arg.mark, ItemList::LetterAliases, place);
+    push_aliases(keys, rows, arg.mark, ItemList::LongAliases, place);
 }
 
 /// The keys of all arguments, in their order.
-pub(crate) fn push_all(keys: &mut Vec<KeyRow>, args: &[Held<ArgHeld>], rows: &[ItemRow])
-    requires { vec_len keys.old + length (keys_from 0 (map (arg_entry (map row_held rows.now)) (map (held arg_held) args.now))) ≤ vec_capacity keys.old }
-    ensures items { map key_held keys.new.items ≡ map key_held keys.old.items ++ keys_from 0 (map (arg_entry (map row_held rows.now)) (map (held arg_held) args.now)) }
-    ensures capacity { vec_capacity keys.new ≡ vec_capacity keys.old }
+// a rule of the project names this form of the loop
+pub(crate) fn push_all(keys: &mut Keys, args: &[Held<ArgOf<Name>>], rows: &[ItemRow])
+    requires { length keys.old.list.items + length (keys_from 0 (map (arg_entry (map row_held rows.now)) (map (held arg_held) args.now))) ≤ 640 }
+    ensures { map key_held keys.new.list.items ≡ map key_held keys.old.list.items ++ keys_from 0 (map (arg_entry (map row_held rows.now)) (map (held arg_held) args.now)) }
 {
     for (place, arg) in args.iter().enumerate() {
         push_arg(keys, arg, rows, place);

@@ -2,10 +2,8 @@
 #![tactic(auto)]
 
 mod key_pushes;
-mod key_rows;
 mod open;
 mod source;
 mod states;
-mod views;
 
 pub use states::{BuiltBook, OpenBook};

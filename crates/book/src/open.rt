@@ -7,23 +7,24 @@ ghost use Rattle.book.specs.Books.{open_marked, built_marked};
 
 use super::key_pushes::push_all;
 use super::states::{BuiltBook, OpenBook};
-use book_tables::Tables;
+use book_tables::{Table, Tables};
 use calls::{ArgRecord, Item, SubcommandRecord};
-use form::{EntryKind, Refusal};
+use form::{EntryKind, Refusal, ValueRange};
 use std::alloc::{AllocError, Global};
 
+// Each call is handed on to the tables: through this layer an edit of the tables is tried without the keys.
 impl OpenBook {
     /// An empty book. It reserves all the memory that it will ever need: no later call fails for want of memory.
     pub fn new(heap: Global) -> Result<OpenBook, AllocError>
         ensures { IfOk result (λ b. open_marked b ≡ blank) }
     {
         let tables = Tables::new(heap)?;
-        let keys = Vec::with_capacity(heap, 640)?;
+        let keys = Table::new(heap)?;
         Ok(OpenBook { tables, keys })
     }
 
     /// Adds an argument at its table's end, and answers its mark.
-    pub fn enter_arg(&mut self, details: ArgRecord<'_>) -> Result<u16, Refusal>
+    pub fn enter_arg(&mut self, details: ArgRecord<&[u8], ValueRange>) -> Result<u16, Refusal>
         ensures answer { result ≡ enter_answer (open_marked self.old) (argument (arg_given details.entry)) }
         ensures after { open_marked self.new ≡ entered (open_marked self.old) (argument (arg_given details.entry)) }
     {
@@ -39,7 +40,7 @@ impl OpenBook {
     }
 
     /// Adds a subcommand at its table's end, and answers its mark.
-    pub fn enter_subcommand(&mut self, details: SubcommandRecord<'_>) -> Result<u16, Refusal>
+    pub fn enter_subcommand(&mut self, details: SubcommandRecord<&[u8]>) -> Result<u16, Refusal>
         ensures answer { result ≡ enter_answer (open_marked self.old) (subcommand (subcommand_given details.entry)) }
         ensures after { open_marked self.new ≡ entered (open_marked self.old) (subcommand (subcommand_given details.entry)) }
     {
@@ -47,7 +48,11 @@ impl OpenBook {
     }
 
     /// Replaces the record of the argument that bears the mark; it keeps mark, place and items.
-    pub fn alter_arg(&mut self, mark: u16, details: ArgRecord<'_>) -> Result<(), Refusal>
+    pub fn alter_arg(
+        &mut self,
+        mark: u16,
+        details: ArgRecord<&[u8], ValueRange>,
+    ) -> Result<(), Refusal>
         ensures answer { result ≡ alter_answer (open_marked self.old) mark (argument (arg_given details.entry)) }
         ensures after { open_marked self.new ≡ altered (open_marked self.old) mark (argument (arg_given details.entry)) }
     {
@@ -66,7 +71,7 @@ impl OpenBook {
     pub fn alter_subcommand(
         &mut self,
         mark: u16,
-        details: SubcommandRecord<'_>,
+        details: SubcommandRecord<&[u8]>,
     ) -> Result<(), Refusal>
         ensures answer { result ≡ alter_answer (open_marked self.old) mark (subcommand (subcommand_given details.entry)) }
         ensures after { open_marked self.new ≡ altered (open_marked self.old) mark (subcommand (subcommand_given details.entry)) }
@@ -83,7 +88,7 @@ impl OpenBook {
     }
 
     /// Appends the item to that list of the entry that bears the mark.
-    pub fn attach(&mut self, mark: u16, list: u8, item: Item<'_>) -> Result<(), Refusal>
+    pub fn attach(&mut self, mark: u16, list: u8, item: Item<&[u8]>) -> Result<(), Refusal>
         ensures answer { result ≡ attach_answer (open_marked self.old) mark list (item_given item.entry) }
         ensures after { open_marked self.new ≡ attached (open_marked self.old) mark list (item_given item.entry) }
     {

@@ -1,18 +1,10 @@
-ghost use Rattle.std.specs.Prelude.{◌≡◌, ◌<◌, length, slice_index_or};
 ghost use Rattle.book.specs.Books.{built_form, built_fits};
 
 use super::states::BuiltBook;
 use form::{AppFlags, ArgView, FormSource, GroupView, ItemList, Key, Keyed, SubcommandView};
 
-// the row at the place
-fn row_at<R>(rows: &[R], place: usize) -> &R
-    requires { place < length rows.now }
-    ensures { result.now ≡ slice_index_or rows.now place result.now }
-{
-    &rows[place]
-}
-
 /// A built book shows its form; an open one does not.
+#[tactic(auto, using(book_tables::proofs::Places::entry_at, book_tables::proofs::Places::past_entries, book_tables::specs::Fitted::entries_long), unfolding(book_tables::specs::Tables::tables_marked))]
 impl FormSource for BuiltBook {
     ghost form = { built_form };
 
@@ -39,31 +31,25 @@ impl FormSource for BuiltBook {
     }
 
     fn arg(&self, place: usize) -> ArgView<'_> {
-        let args = self.tables.args.as_slice();
-        if place < args.len() {
-            row_at(args, place).of.view()
-        } else {
-            ArgView::new(b"")
+        match self.tables.args.get(place) {
+            Some(arg) => arg.of.view(),
+            None => ArgView::new(b""),
         }
     }
 
     fn group(&self, place: usize) -> GroupView<'_> {
-        let groups = self.tables.groups.as_slice();
-        if place < groups.len() {
-            GroupView {
-                id: row_at(groups, place).of.as_bytes(),
-            }
-        } else {
-            GroupView { id: b"" }
+        match self.tables.groups.get(place) {
+            Some(group) => GroupView {
+                id: group.of.as_bytes(),
+            },
+            None => GroupView { id: b"" },
         }
     }
 
     fn subcommand(&self, place: usize) -> SubcommandView<'_> {
-        let subcommands = self.tables.subcommands.as_slice();
-        if place < subcommands.len() {
-            row_at(subcommands, place).of.view()
-        } else {
-            SubcommandView::new(b"")
+        match self.tables.subcommands.get(place) {
+            Some(subcommand) => subcommand.of.view(),
+            None => SubcommandView::new(b""),
         }
     }
 
@@ -85,17 +71,13 @@ impl FormSource for BuiltBook {
 }
 
 /// Its keys are stored.
+#[tactic(auto, using(crate::specs::Books::built_keys, crate::specs::Books::key_shown, crate::specs::Books::keys_counted))]
 impl Keyed for BuiltBook {
     fn key_count(&self) -> usize {
         self.keys.len()
     }
 
-    fn key(&self, i: usize) -> Option<Key<'_>> {
-        let keys = self.keys.as_slice();
-        if i < keys.len() {
-            Some(row_at(keys, i).view())
-        } else {
-            None
-        }
+    fn key(&self, i: usize) -> Option<Key<&[u8]>> {
+        self.keys.get(i).map(|key| key.view())
     }
 }

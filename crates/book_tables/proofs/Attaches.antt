@@ -1,5 +1,6 @@
 -- Attaching, over the marked form.
-use Rattle.std.proofs.Common.{◌≡◌, ℕ, ◌<◌, ◌≤◌, Bool, true, false, List, [], ◌∷◌, ◌++◌, map, length, Some, Ok, Err, sym, refl, ap, ◌∙◌, arith, le-leb}
+use Rattle.std.proofs.Common.{◌≡◌, ℕ, ◌<◌, ◌≤◌, Bool, true, false, List, [], ◌∷◌, ◌++◌, map, length, None, Some, Option, Ok, Err, sym, refl, ap, ◌∙◌, arith, le-leb}
+use Rattle.std.specs.Option.{ok_or}
 use borrow.Author.Tests.{lt-leb}
 use Rattle.std.proofs.lemmas.List.{map_push}
 use Rattle.form.specs.Lists.{list_numbered}
@@ -23,6 +24,22 @@ pub record Attachable (m : MarkedForm) (k n : ℕ) (l : ItemList) (x y : ItemOf)
   pub list : Some l ≡ list_numbered n
   pub fits : true ≡ takes m k (Some l) x
   pub taken : Ok y ≡ item_taken x
+
+-- a list that is found has the number
+pub list_found : {E : Type 0} (o : Option ItemList) (e : E) (l : ItemList) → Ok l ≡ ok_or o e → Some l ≡ o
+list_found None e l is = absurd (let z : ◌≡◌ {A = ℕ} 0 1 = cc in omega arith)
+list_found (Some k) e l is = let h : l ≡ k = cc in ap Some h
+
+bad_taken : {X : Type 0} (t : Bool) (x : X) (e d : Refusal) → Err e ≡ good_or t x d → (t ≡ false) × (e ≡ d)
+bad_taken true x e d is = absurd (let z : ◌≡◌ {A = ℕ} 0 1 = cc in omega arith)
+bad_taken false x e d is = (refl, cc)
+
+-- an item that is not taken is refused once its list is found good
+pub attach_bad : (m : MarkedForm) (k n : ℕ) (l : ItemList) (x : ItemOf) (e : Refusal) → true ≡ marked m k → Some l ≡ list_numbered n → true ≡ takes m k (Some l) x → Err e ≡ item_taken x
+    → (Err e ≡ attach_answer m k n x) × (m ≡ attached m k n x)
+attach_bad m k n l x e has list fits is =
+    let bad = bad_taken (good_item x) x e (item_refusal x) is in
+    rw (bad.1, sym has, sym list, sym fits, bad.0) (refl, refl)
 
 pub attach_full : (m : MarkedForm) (k n : ℕ) (l : ItemList) (x y : ItemOf) → Attachable m k n l x y → 512 ≤ length m.rows
     → (Err RowsTaken ≡ attach_answer m k n x) × (m ≡ attached m k n x)

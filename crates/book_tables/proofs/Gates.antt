@@ -1,10 +1,11 @@
 -- A record passes the tests of its names and letters, or is refused there; and what that makes of a call.
-use Rattle.std.proofs.Common.{◌≡◌, ℕ, Bool, true, false, cond, not, is_ok, Ok, Err, Result, refl, ap, ◌∙◌, arith}
+use Rattle.std.proofs.Common.{◌≡◌, ℕ, Bool, true, false, cond, not, is_ok, Ok, Err, Result, sym, refl, ap, ◌∙◌, arith}
 use Rattle.form.specs.declared.refusal.Refusal.{Refusal}
 use Rattle.form.specs.declared.refusal.Refusal.TheVariants.{NameLength, NoScalar}
 use Rattle.calls.specs.Marked.{MarkedForm}
 use Rattle.form.specs.Model.{Name}
-use Rattle.calls.specs.Calls.{RecordOf, group, good_name, good_names, good_letters, enter_answer, added, entered}
+use Rattle.calls.specs.Calls.{RecordOf, group, good_name, good_names, good_letters, enter_answer, added, entered, full}
+use Rattle.book_tables.specs.Steps.{mark_answer}
 use Rattle.book_tables.specs.Taken.{name_taken, all_good_or}
 
 -- the two tests, and what follows them
@@ -38,8 +39,10 @@ passed_by r x y rest is = passed (good_names r) (good_letters r) x y rest is
 pub entered_refused : (m : MarkedForm) (r : RecordOf) (e : Refusal) → Err e ≡ enter_answer m r → m ≡ entered m r
 entered_refused m r e is = ap (λ a. cond (is_ok a) (added m r) m) is
 
-pub entered_taken : (m after more : MarkedForm) (r : RecordOf) (a : Result ℕ Refusal) → a ≡ enter_answer m r → more ≡ added m r → after ≡ cond (is_ok a) more m → after ≡ entered m r
-entered_taken m after more r a is same to = to ∙ ap (λ n. cond (is_ok a) n m) same ∙ ap (λ b. cond (is_ok b) (added m r) m) is
+-- what was taken is kept, and the table answers for the call
+pub enter_answered : {X : Type 0} (m : MarkedForm) (r : RecordOf) (x y : X) (a : Result ℕ Refusal) → Ok y ≡ all_good_or r x → a ≡ mark_answer (full m r) m.next
+    → (y ≡ x) × (a ≡ enter_answer m r)
+enter_answered m r x y a is to = let p = passed_by r x y (mark_answer (full m r) m.next) is in (p.0, to ∙ sym p.1)
 
 -- a group's one name
 pub group_gate : (x : Name) → name_taken x ≡ all_good_or (group x) x

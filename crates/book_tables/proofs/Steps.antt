@@ -1,56 +1,29 @@
 -- One more entry in a table.
-use Rattle.std.proofs.Common.{◌≡◌, ℕ, ◌+◌, ◌≤◌, Bool, true, false, cond, ltb, List, [], ◌∷◌, ◌++◌, map, length, Ok, Err, sym, refl, ap, ◌∙◌, arith, ltb-false}
-use Rattle.std.proofs.lemmas.List.{length-map, map_push}
+use Rattle.std.proofs.Common.{◌≡◌, ℕ, ◌+◌, ◌≤◌, Bool, true, false, cond, ltb, List, [], ◌∷◌, ◌++◌, map, is_ok, Ok, Err, Result, refl, ap, ◌∙◌, arith, ltb-false}
+use Rattle.std.proofs.lemmas.List.{map_push}
 use Rattle.std.proofs.lemmas.Bool.Decides.{nat_tests}
-use Rattle.form.specs.declared.refusal.Refusal.TheVariants.{MarksSpent}
+use Rattle.form.specs.Model.{Name}
+use Rattle.form.specs.Shown.{ArgRecord, SubcommandRecord}
+use Rattle.form.specs.declared.refusal.Refusal.{Refusal}
+use Rattle.form.specs.declared.refusal.Refusal.TheVariants.{TableFull, MarksSpent}
+use Rattle.calls.specs.Marked.{Marked, MarkedForm}
+use Rattle.calls.specs.Calls.{argument, group, subcommand, kept, enter_answer, added, entered}
 use Rattle.book_tables.specs.declared.held.Held.{Held}
 use Rattle.book_tables.specs.Held.{held, marks}
 use Rattle.book_tables.specs.Marks.{climbing}
-use Rattle.form.specs.Model.{Name}
-use Rattle.form.specs.Shown.{ArgRecord, SubcommandRecord}
-use Rattle.calls.specs.Marked.{Marked, MarkedForm}
-use Rattle.book_tables.specs.Steps.{mark_answer, with_arg, with_group, with_subcommand}
+use Rattle.book_tables.specs.Steps.{mark_answer, entered_at, next_after}
 use Rattle.book_tables.proofs.Marks.{climbing_push}
 
--- a mark is given where there is room and marks are left
-pub record MarkedNext (full : Bool) (next mark : ℕ) : Type 0 where
-  pub room : full ≡ false
-  pub left : next ≤ 60000
-  pub is : mark ≡ next
-
-pub mark_given : (full : Bool) (next mark : ℕ) → Ok mark ≡ mark_answer full next → MarkedNext full next mark
-mark_given true next mark e = absurd (let z : ◌≡◌ {A = ℕ} 0 1 = cc in omega arith)
-mark_given false next mark e = go (ltb 60000 next) refl e
+-- no mark is given above 60,000
+pub next_few : (full : Bool) (n : ℕ) (a : Result ℕ Refusal) → a ≡ mark_answer full n → n ≤ 60001 → next_after a n ≤ 60001
+next_few full n a is le = rw is (go full (ltb 60000 n) refl)
   where
-    go : (t : Bool) → ltb 60000 next ≡ t → Ok mark ≡ cond t (Err MarksSpent) (Ok next) → MarkedNext false next mark
-    go true s e = absurd (let z : ◌≡◌ {A = ℕ} 0 1 = cc in omega arith)
-    go false s e = record { room = refl; left = ltb-false _ _ s; is = cc }
+    go : (f t : Bool) → ltb 60000 n ≡ t → next_after (cond f (Err TableFull) (cond t (Err MarksSpent) (Ok n))) n ≤ 60001
+    go true t s = le
+    go false true s = le
+    go false false s = let h = ltb-false _ _ s in omega arith
 
-pub table_push : {X Y : Type 0} (f : X → Y) (es more : List (Held X)) (e : Held X) (k : ℕ) → more ≡ es ++ e ∷ [] → e.mark ≡ k
-    → map (held f) more ≡ map (held f) es ++ (record { mark = k; of = f e.of } ∷ [])
-table_push f es more e k is same = ap (map (held f)) is ∙ map_push (held f) es e ∙ ap (λ m. map (held f) es ++ (record { mark = m; of = f e.of } ∷ [])) same
-
--- a marked form with one more entry
-pub arg_added : (m : MarkedForm) (es : List (Marked ArgRecord)) (n : ℕ) (r : ArgRecord) → es ≡ m.args ++ (record { mark = m.next; of = r } ∷ []) → n ≡ m.next + 1
-    → record { settings = m.settings; args = es; groups = m.groups; subcommands = m.subcommands; rows = m.rows; next = n } ≡ with_arg m r
-arg_added m es n r e f = rw (e, f)
-
-pub group_added : (m : MarkedForm) (es : List (Marked Name)) (n : ℕ) (x : Name) → es ≡ m.groups ++ (record { mark = m.next; of = x } ∷ []) → n ≡ m.next + 1
-    → record { settings = m.settings; args = m.args; groups = es; subcommands = m.subcommands; rows = m.rows; next = n } ≡ with_group m x
-group_added m es n x e f = rw (e, f)
-
-pub subcommand_added : (m : MarkedForm) (es : List (Marked SubcommandRecord)) (n : ℕ) (r : SubcommandRecord) → es ≡ m.subcommands ++ (record { mark = m.next; of = r } ∷ []) → n ≡ m.next + 1
-    → record { settings = m.settings; args = m.args; groups = m.groups; subcommands = es; rows = m.rows; next = n } ≡ with_subcommand m r
-subcommand_added m es n r e f = rw (e, f)
-
-pub marks_push : {X : Type 0} (es more : List (Held X)) (e : Held X) (next : ℕ) → more ≡ es ++ e ∷ [] → e.mark ≡ next
-    → climbing 1 (marks es) next ≡ true → climbing 1 (marks more) (next + 1) ≡ true
-marks_push es more e next is same up =
-    let p : marks more ≡ marks es ++ next ∷ [] = ap marks is ∙ map_push (λ x. x.mark) es e ∙ rw same in
-    rw p (climbing_push 1 (marks es) next up)
-
--- marks that are below a bound are below the next one
-pub climbing_higher : (low : ℕ) (ms : List ℕ) (top : ℕ) → climbing low ms top ≡ true → climbing low ms (top + 1) ≡ true
+climbing_higher : (low : ℕ) (ms : List ℕ) (top : ℕ) → climbing low ms top ≡ true → climbing low ms (top + 1) ≡ true
 unfolding climbing
 climbing_higher low [] top h = grind (arith, nat_tests)
 climbing_higher low (m ∷ ms) top h =
@@ -58,6 +31,50 @@ climbing_higher low (m ∷ ms) top h =
     let r = climbing_higher (m + 1) ms top b in
     grind (arith, nat_tests)
 
--- how long a table is
-pub table_long : {X Y : Type 0} (f : X → Y) (es : List X) (n m : ℕ) → n ≡ m → m ≡ length es → n ≡ length (map f es)
-table_long f es n m is long = is ∙ long ∙ sym (length-map es f)
+-- marks that are below the next one are below the one after it
+pub climbing_on : (a : Result ℕ Refusal) (ms : List ℕ) (n : ℕ) → climbing 1 ms n ≡ true → climbing 1 ms (next_after a n) ≡ true
+climbing_on a ms n up = elim (is_ok a) as (λ t. climbing 1 ms (cond t (n + 1) n) ≡ true) [ true ↦ climbing_higher 1 ms n up | false ↦ up ]
+
+-- and so is the one that is given
+pub climbing_entered : {X : Type 0} (a : Result ℕ Refusal) (n : ℕ) (x : X) (es : List (Held X)) → climbing 1 (marks es) n ≡ true
+    → climbing 1 (marks (entered_at a n x es)) (next_after a n) ≡ true
+climbing_entered {X} a n x es up =
+    let e : Held X = record { mark = n; of = x } in
+    elim (is_ok a) as (λ t. climbing 1 (marks (cond t (es ++ e ∷ []) es)) (cond t (n + 1) n) ≡ true) [ true ↦ rw (map_push (λ (h : Held X). h.mark) es e) (climbing_push 1 (marks es) n up) | false ↦ up ]
+
+-- an entry at the end of what a table means, where its mark is given
+abbrev more : {Y : Type 0} → Bool → ℕ → Y → List (Marked Y) → List (Marked Y)
+more t n y es = cond t (es ++ (record { mark = n; of = y } ∷ [])) es
+
+pub table_entered : {X Y : Type 0} (f : X → Y) (a : Result ℕ Refusal) (n : ℕ) (x : X) (es : List (Held X)) → map (held f) (entered_at a n x es) ≡ more (is_ok a) n (f x) (map (held f) es)
+table_entered {X} f a n x es =
+    let e : Held X = record { mark = n; of = x } in
+    elim (is_ok a) as (λ t. map (held f) (cond t (es ++ e ∷ []) es) ≡ more t n (f x) (map (held f) es)) [ true ↦ map_push (held f) es e | false ↦ refl ]
+
+-- the marked form after a call of enter, by the table that it goes to
+pub arg_entered : (m : MarkedForm) (es : List (Marked ArgRecord)) (n : ℕ) (a : Result ℕ Refusal) (r y : ArgRecord) → (y ≡ kept r) × (a ≡ enter_answer m (argument r))
+    → es ≡ more (is_ok a) m.next y m.args → n ≡ next_after a m.next
+    → record { settings = m.settings; args = es; groups = m.groups; subcommands = m.subcommands; rows = m.rows; next = n } ≡ entered m (argument r)
+arg_entered m es n a r y p e f = rw (e, f, p.0) (go (is_ok a) ∙ ap (λ b. cond (is_ok b) (added m (argument r)) m) p.1)
+  where
+    go : (t : Bool) → record { settings = m.settings; args = more t m.next (kept r) m.args; groups = m.groups; subcommands = m.subcommands; rows = m.rows; next = cond t (m.next + 1) m.next } ≡ cond t (added m (argument r)) m
+    go true = refl
+    go false = refl
+
+pub group_entered : (m : MarkedForm) (es : List (Marked Name)) (n : ℕ) (a : Result ℕ Refusal) (x y : Name) → (y ≡ x) × (a ≡ enter_answer m (group x))
+    → es ≡ more (is_ok a) m.next y m.groups → n ≡ next_after a m.next
+    → record { settings = m.settings; args = m.args; groups = es; subcommands = m.subcommands; rows = m.rows; next = n } ≡ entered m (group x)
+group_entered m es n a x y p e f = rw (e, f, p.0) (go (is_ok a) ∙ ap (λ b. cond (is_ok b) (added m (group x)) m) p.1)
+  where
+    go : (t : Bool) → record { settings = m.settings; args = m.args; groups = more t m.next x m.groups; subcommands = m.subcommands; rows = m.rows; next = cond t (m.next + 1) m.next } ≡ cond t (added m (group x)) m
+    go true = refl
+    go false = refl
+
+pub subcommand_entered : (m : MarkedForm) (es : List (Marked SubcommandRecord)) (n : ℕ) (a : Result ℕ Refusal) (r y : SubcommandRecord) → (y ≡ r) × (a ≡ enter_answer m (subcommand r))
+    → es ≡ more (is_ok a) m.next y m.subcommands → n ≡ next_after a m.next
+    → record { settings = m.settings; args = m.args; groups = m.groups; subcommands = es; rows = m.rows; next = n } ≡ entered m (subcommand r)
+subcommand_entered m es n a r y p e f = rw (e, f, p.0) (go (is_ok a) ∙ ap (λ b. cond (is_ok b) (added m (subcommand r)) m) p.1)
+  where
+    go : (t : Bool) → record { settings = m.settings; args = m.args; groups = m.groups; subcommands = more t m.next r m.subcommands; rows = m.rows; next = cond t (m.next + 1) m.next } ≡ cond t (added m (subcommand r)) m
+    go true = refl
+    go false = refl

@@ -183,11 +183,11 @@ arg_items_few t =
     let rs = (tables_marked t).rows in
     omega (
       arith,
-      table_few arg_items (arg_entry rs) arg_weight rs (λ e. arg_counted e rs) arg_held (vec_items t.args) t.next t.args_order,
+      table_few arg_items (arg_entry rs) arg_weight rs (λ e. arg_counted e rs) arg_held (vec_items t.args.list) t.next t.args_order,
       all_weighed rs,
-      length-map (vec_items t.rows) row_held,
-      t.rows.ok.0,
-      t.few_rows,
+      length-map (vec_items t.rows.list) row_held,
+      t.rows.list.ok.0,
+      t.rows.few,
     )
 
 pub book_fits : (t : Tables) → Fits (form_of (tables_marked t))
@@ -195,18 +195,18 @@ unfolding tables_marked
 book_fits t =
     let rs = (tables_marked t).rows in
     record {
-      args = omega (arith, entries_long (held arg_held) (arg_entry rs) (vec_items t.args), t.args.ok.0, t.few_args);
-      groups = omega (arith, entries_long (held name_bytes) (group_entry rs) (vec_items t.groups), t.groups.ok.0, t.few_groups);
-      subcommands = omega (arith, entries_long (held subcommand_held) (subcommand_entry rs) (vec_items t.subcommands), t.subcommands.ok.0, t.few_subcommands);
+      args = omega (arith, entries_long (held arg_held) (arg_entry rs) (vec_items t.args.list), t.args.list.ok.0, t.args.few);
+      groups = omega (arith, entries_long (held name_bytes) (group_entry rs) (vec_items t.groups.list), t.groups.list.ok.0, t.groups.few);
+      subcommands = omega (arith, entries_long (held subcommand_held) (subcommand_entry rs) (vec_items t.subcommands.list), t.subcommands.list.ok.0, t.subcommands.few);
       items =
           omega (
             arith,
-            table_few arg_items (arg_entry rs) arg_weight rs (λ e. arg_counted e rs) arg_held (vec_items t.args) t.next t.args_order,
-            table_few group_items (group_entry rs) group_weight rs (λ e. group_counted e rs) name_bytes (vec_items t.groups) t.next t.groups_order,
-            table_few subcommand_items (subcommand_entry rs) subcommand_weight rs (λ e. subcommand_counted e rs) subcommand_held (vec_items t.subcommands) t.next t.subcommands_order,
+            table_few arg_items (arg_entry rs) arg_weight rs (λ e. arg_counted e rs) arg_held (vec_items t.args.list) t.next t.args_order,
+            table_few group_items (group_entry rs) group_weight rs (λ e. group_counted e rs) name_bytes (vec_items t.groups.list) t.next t.groups_order,
+            table_few subcommand_items (subcommand_entry rs) subcommand_weight rs (λ e. subcommand_counted e rs) subcommand_held (vec_items t.subcommands.list) t.next t.subcommands_order,
             all_weighed rs,
-            length-map (vec_items t.rows) row_held,
-            t.rows.ok.0,
-            t.few_rows,
+            length-map (vec_items t.rows.list) row_held,
+            t.rows.list.ok.0,
+            t.rows.few,
           );
     }

@@ -1,23 +1,22 @@
 -- What the entries and rows of a book's tables mean.
 use Rattle.std.specs.Prelude.{ℕ, List, map}
-use Rattle.std.specs.Option.{option_map}
 use Rattle.form.specs.NameBytes.{name_bytes}
-use Rattle.form.specs.Bounds.{bounds}
-use Rattle.form.specs.Shown.{ArgRecord, SubcommandRecord}
+use Rattle.form.specs.Shown.{ArgRecord, SubcommandRecord, told_of, told_of_subcommand}
+use Rattle.form.specs.declared.name.Name as held_name
+use Rattle.form.specs.declared.views.ArgOf.{ArgOf}
+use Rattle.form.specs.declared.views.SubcommandOf.{SubcommandOf}
 use Rattle.calls.specs.Marked.{Marked, ItemOf, name_item, letter_item, Row}
 use Rattle.book_tables.specs.declared.held.Held.{Held}
-use Rattle.book_tables.specs.declared.held.ArgHeld.{ArgHeld}
-use Rattle.book_tables.specs.declared.held.SubcommandHeld.{SubcommandHeld}
 use Rattle.book_tables.specs.declared.held.HeldItem.{HeldItem}
 use Rattle.book_tables.specs.declared.held.HeldItem.TheVariants.{Name, Letter}
 use Rattle.book_tables.specs.declared.held.ItemRow.{ItemRow}
 
 -- the record that is held of an argument
-abbrev pub arg_held : ArgHeld → ArgRecord
-arg_held a = record { id = name_bytes a.id; long = option_map name_bytes a.long; letter = a.letter; index = a.index; settings = a.settings.bits; action = a.action; terminated = a.terminated; range = option_map bounds a.range }
+abbrev pub arg_held : ArgOf held_name.Name → ArgRecord
+arg_held a = told_of name_bytes a
 
-abbrev pub subcommand_held : SubcommandHeld → SubcommandRecord
-subcommand_held s = record { name = name_bytes s.name; long = option_map name_bytes s.long; letter = s.letter }
+abbrev pub subcommand_held : SubcommandOf held_name.Name → SubcommandRecord
+subcommand_held s = told_of_subcommand name_bytes s
 
 -- what is held, under its mark
 abbrev pub held : {X Y : Type 0} → (X → Y) → Held X → Marked Y

@@ -1,8 +1,7 @@
 pub mod Held
 pub mod Marks
-pub mod Replace
+pub mod Steps
 pub mod Tables
 pub mod Taken
-pub mod Steps
 pub mod Rows
 pub mod Fitted

@@ -1,10 +1,5 @@
 -- Marks in a table.
-use Rattle.std.specs.Prelude.{ℕ, ◌+◌, Bool, false, ◌&&◌, ◌||◌, List, [], ◌∷◌, ◌==◌, nat_le}
-
--- one of these is k
-abbrev pub among : ℕ → List ℕ → Bool
-among k [] = false
-among k (m ∷ ms) = m == k || among k ms
+use Rattle.std.specs.Prelude.{ℕ, ◌+◌, Bool, ◌&&◌, List, [], ◌∷◌, nat_le}
 
 -- from low on, ascending, and all below top
 unfoldable pub climbing : ℕ → List ℕ → ℕ → Bool

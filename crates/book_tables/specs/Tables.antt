@@ -9,9 +9,9 @@ use Rattle.book_tables.specs.declared.tables.Tables.{Tables}
 unfoldable pub tables_marked : Tables → MarkedForm
 tables_marked t = record {
   settings = t.settings.bits;
-  args = map (held arg_held) (vec_items t.args);
-  groups = map (held name_bytes) (vec_items t.groups);
-  subcommands = map (held subcommand_held) (vec_items t.subcommands);
-  rows = map row_held (vec_items t.rows);
+  args = map (held arg_held) (vec_items t.args.list);
+  groups = map (held name_bytes) (vec_items t.groups.list);
+  subcommands = map (held subcommand_held) (vec_items t.subcommands.list);
+  rows = map row_held (vec_items t.rows.list);
   next = t.next;
 }

@@ -1,4 +1,4 @@
-use form::{ArgAction, ArgFlags, ItemList, Name, ValueRange};
+use form::{ItemList, Name};
 
 /// Something that a table holds under its mark.
 #[derive(Clone, Copy)]
@@ -7,28 +7,7 @@ pub struct Held<T> {
     pub of: T,
 }
 
-/// An argument's record, held in place.
-#[derive(Clone, Copy)]
-pub struct ArgHeld {
-    pub id: Name,
-    pub long: Option<Name>,
-    pub letter: Option<char>,
-    pub index: Option<u16>,
-    pub settings: ArgFlags,
-    pub action: ArgAction,
-    pub terminated: bool,
-    pub range: Option<ValueRange>,
-}
-
-/// A subcommand's record, held in place.
-#[derive(Clone, Copy)]
-pub struct SubcommandHeld {
-    pub name: Name,
-    pub long: Option<Name>,
-    pub letter: Option<char>,
-}
-
-/// An item, held in place.
+/// An item, held in place. Unlike that of `calls::Item`, its letter is one.
 #[derive(Clone, Copy)]
 pub enum HeldItem {
     Name(Name),

@@ -7,13 +7,15 @@ mod enter;
 mod held;
 mod lists_at;
 mod made;
+mod marked;
 mod marking;
 mod rows;
 mod strike;
 mod sweep;
+mod table;
 mod tables;
 mod taken;
-mod views;
 
-pub use held::{ArgHeld, Held, HeldItem, ItemRow, SubcommandHeld};
+pub use held::{Held, HeldItem, ItemRow};
+pub use table::Table;
 pub use tables::Tables;

@@ -2,7 +2,6 @@ ghost use Rattle.std.specs.Prelude.{◌≡◌};
 ghost use Rattle.calls.specs.Calls.{strike_answer, struck};
 ghost use Rattle.book_tables.specs.Tables.{tables_marked};
 
-use super::sweep::sweep;
 use super::tables::Tables;
 use form::Refusal;
 
@@ -15,10 +14,10 @@ impl Tables {
         if !self.is_marked(mark) {
             return Err(Refusal::NoSuchMark);
         }
-        sweep(&mut self.args, mark);
-        sweep(&mut self.groups, mark);
-        sweep(&mut self.subcommands, mark);
-        sweep(&mut self.rows, mark);
+        self.args.sweep(mark);
+        self.groups.sweep(mark);
+        self.subcommands.sweep(mark);
+        self.rows.sweep(mark);
         Ok(())
     }
 }

@@ -1,9 +1,7 @@
-ghost use Rattle.std.specs.Prelude.{◌≡◌, ℕ, ◌≤◌, not, map, vec_len, vec_capacity, filter, ◌==◌};
-ghost use Rattle.book_tables.specs.Held.{marks};
-ghost use Rattle.book_tables.specs.Marks.{among};
-ghost use Rattle.book_tables.specs.Replace.{with_under};
+ghost use Rattle.std.specs.Prelude.{◌≡◌, ℕ, not, filter, ◌==◌};
 
 use super::held::{Held, ItemRow};
+use super::table::Table;
 
 /// What stands in a table for the entry of a mark: the entry itself, or an item of it.
 pub(crate) trait Owned {
@@ -29,43 +27,11 @@ impl Owned for ItemRow {
     }
 }
 
-/// Takes out what stands for the entry of the mark; the rest closes up.
-pub(crate) fn sweep<T: Owned + Drop>(table: &mut Vec<T>, mark: u16)
-    ensures items { table.new.items ≡ filter (λ x. not (T.Owned.whose x == mark)) table.old.items }
-    ensures bound { vec_len table.new ≤ vec_len table.old }
-    ensures capacity { vec_capacity table.new ≡ vec_capacity table.old }
-{
-    let mut k = 0;
-    for i in 0..table.len() {
-        if table[i].owner() != mark {
-            table.swap(k, i);
-            k += 1;
-        }
-    }
-    table.truncate(k);
-}
-
-/// Whether an entry of the table bears the mark.
-pub(crate) fn bears<T>(table: &[Held<T>], mark: u16) -> bool
-    ensures { result ≡ among mark (marks table.now) }
-{
-    for entry in table {
-        if entry.mark == mark {
-            return true;
-        }
-    }
-    false
-}
-
-/// Puts another record under the mark, in the same place.
-pub(crate) fn replace<T: Copy>(table: &mut Vec<Held<T>>, mark: u16, of: T)
-    ensures items { table.new.items ≡ map (with_under mark of) table.old.items }
-    ensures len { vec_len table.new ≡ vec_len table.old }
-    ensures capacity { vec_capacity table.new ≡ vec_capacity table.old }
-{
-    for i in 0..table.len() {
-        if table[i].mark == mark {
-            table[i] = Held { mark, of };
-        }
+impl<T: Owned + Drop, const N: usize> Table<T, N> {
+    /// Takes out what stands for the entry of the mark; the rest closes up.
+    pub(crate) fn sweep(&mut self, mark: u16)
+        ensures { self.new.list.items ≡ filter (λ x. not (T.Owned.whose x == mark)) self.old.list.items }
+    {
+        self.list.retain(|item| item.owner() != mark);
     }
 }

@@ -1,5 +1,9 @@
-use super::records::{Item, SubcommandRecord};
-use form::ArgAction;
+ghost use Rattle.std.specs.Prelude.{◌≡◌};
+ghost use Rattle.form.specs.Bounds.{bounds};
+ghost use Rattle.calls.specs.Called.{range_of};
+
+use super::records::{Item, Record};
+use form::ValueRange;
 
 /// A range as it is given; where its least is above its most, it is refused when it is made.
 #[derive(Clone, Copy)]
@@ -8,49 +12,39 @@ pub struct Bounds {
     pub most: u64,
 }
 
-/// An argument's record as a call gives it: its range is still to be made.
-#[derive(Clone, Copy)]
-pub struct ArgCall<'a> {
-    pub id: &'a [u8],
-    pub long: Option<&'a [u8]>,
-    pub letter: Option<u32>,
-    pub index: Option<u16>,
-    pub settings: u16,
-    pub action: ArgAction,
-    pub terminated: bool,
-    pub range: Option<Bounds>,
-}
+impl From<ValueRange> for Bounds {
+    ghost from_gives = { λ range given. range_of given ≡ bounds range };
 
-/// The record of an entry as a call gives it; a group has its id only.
-#[derive(Clone, Copy)]
-pub enum RecordCall<'a> {
-    Argument(ArgCall<'a>),
-    Group(&'a [u8]),
-    Subcommand(SubcommandRecord<'a>),
+    fn from(range: ValueRange) -> Bounds {
+        Bounds {
+            least: range.min_values(),
+            most: range.max_values(),
+        }
+    }
 }
 
 /// What find seeks: a position, the code of a letter, or a long name.
 #[derive(Clone, Copy)]
-pub enum Sought<'a> {
+pub enum Sought<N> {
     Position(u16),
     Letter(u32),
-    Long(&'a [u8]),
+    Long(N),
 }
 
-/// A call on a book, with its arguments.
+/// A call on a book, with its arguments; the ranges of its records are still to be made.
 #[derive(Clone, Copy)]
-pub enum Call<'a> {
-    Enter(RecordCall<'a>),
-    Alter(u16, RecordCall<'a>),
+pub enum Call<N> {
+    Enter(Record<N, Bounds>),
+    Alter(u16, Record<N, Bounds>),
     /// an enter or alter whose range was refused when it was made
     Unmade,
     Strike(u16),
-    Attach(u16, u8, Item<'a>),
+    Attach(u16, u8, Item<N>),
     Set(u16),
     Build,
     Reopen,
     /// with the room of the list
     Report(usize),
     First,
-    Find(Sought<'a>),
+    Find(Sought<N>),
 }

@@ -3,8 +3,9 @@
 
 mod call;
 mod laws;
+mod lent;
 mod records;
 
-pub use call::{ArgCall, Bounds, Call, RecordCall, Sought};
+pub use call::{Bounds, Call, Sought};
 pub use laws::{exact_law, stable_law};
 pub use records::{ArgRecord, Item, Record, SubcommandRecord};

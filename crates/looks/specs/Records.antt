@@ -1,8 +1,9 @@
 -- Tests on an argument that look at its record alone.
-use Rattle.std.specs.Prelude.{◌≡◌, ℕ, cond, [], Some, None, Option}
+use Rattle.std.specs.Prelude.{◌≡◌, ℕ, cond, List, [], Some, None, Option}
 use Rattle.form.specs.Model.{Arg, Form}
 use Rattle.form.specs.Shown.{ArgRecord, arg_record, shown}
-use Rattle.form.specs.declared.views.ArgView.{ArgView}
+use Rattle.std.specs.Borrow.{Bor}
+use Rattle.form.specs.declared.views.ArgOf.{ArgOf}
 use Rattle.rules.specs.Rows.{arg_of, positional_last}
 
 -- the argument of a record, with empty lists
@@ -28,11 +29,11 @@ bare r = record {
 }
 
 -- the argument that a view shows, but for its lists
-abbrev pub seen : ArgView → Arg
+abbrev pub seen : ArgOf (Bor (List ℕ)) → Arg
 seen v = bare (shown v)
 
 -- the view shows the argument at the place
-abbrev pub Shows : Form → ℕ → ArgView → Type 0
+abbrev pub Shows : Form → ℕ → ArgOf (Bor (List ℕ)) → Type 0
 Shows f p v = shown v ≡ arg_record (arg_of f p)
 
 -- a mark, if the argument is positional and Last

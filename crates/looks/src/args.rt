@@ -12,10 +12,7 @@ use form::{ArgAction, ArgSettings, ArgView, ValueRange};
 pub fn counted(arg: &ArgView<'_>) -> ValueRange
     ensures { bounds result ≡ words.counted (shown arg.now).range }
 {
-    match arg.range {
-        Some(range) => range,
-        None => ValueRange::SINGLE,
-    }
+    arg.range.unwrap_or(ValueRange::SINGLE)
 }
 
 /// Whether it has a letter or a long name.
@@ -43,10 +40,7 @@ pub fn position(arg: &ArgView<'_>) -> Option<u16>
 pub fn index_or_0(arg: &ArgView<'_>) -> u16
     ensures { result ≡ words.index_or_0 (shown arg.now).index }
 {
-    match arg.index {
-        Some(index) => index,
-        None => 0,
-    }
+    arg.index.unwrap_or(0)
 }
 
 /// Whether its number of values is not fixed.
@@ -67,7 +61,7 @@ pub fn is_many(arg: &ArgView<'_>) -> bool
 pub fn is_multiple(arg: &ArgView<'_>) -> bool
     ensures { result ≡ rows.multiple (seen arg.now) }
 {
-    is_many(arg) || arg.action.code() == ArgAction::Append.code()
+    is_many(arg) || arg.action == ArgAction::Append
 }
 
 /// Whether it takes no values.
@@ -80,7 +74,7 @@ pub fn takes_none(arg: &ArgView<'_>) -> bool
 pub fn is_version(arg: &ArgView<'_>) -> bool
     ensures { result ≡ rows.is_version (seen arg.now) }
 {
-    arg.action.code() == ArgAction::Version.code()
+    arg.action == ArgAction::Version
 }
 
 pub fn too_many_values(arg: &ArgView<'_>) -> bool
@@ -98,10 +92,7 @@ pub fn index_with_flag(arg: &ArgView<'_>) -> bool
 pub fn index_zero(arg: &ArgView<'_>) -> bool
     ensures { result ≡ rows.index_zero (seen arg.now) }
 {
-    match arg.index {
-        Some(index) => index == 0,
-        None => false,
-    }
+    arg.index == Some(0)
 }
 
 pub fn index_without_value(arg: &ArgView<'_>) -> bool
@@ -132,10 +123,7 @@ pub fn equals_with_many(arg: &ArgView<'_>) -> bool
 pub fn is_dashed(name: Option<&[u8]>) -> bool
     ensures { result ≡ rows.dashed (option_map (λ x. x.now) name.entry) }
 {
-    match name {
-        Some([first, ..]) => *first == b'-',
-        _ => false,
-    }
+    name.is_some_and(|name| name.starts_with(b"-"))
 }
 
 pub fn last_with_long(arg: &ArgView<'_>) -> bool
@@ -167,5 +155,5 @@ pub fn positional_last(arg: &ArgView<'_>) -> bool
 pub fn last_mark(arg: &ArgView<'_>) -> Option<()>
     ensures { result ≡ last_mark (seen arg.now) }
 {
-    if positional_last(arg) { Some(()) } else { None }
+    positional_last(arg).then_some(())
 }

@@ -1,4 +1,3 @@
-pub mod Makes
 pub mod Unbuilt
 pub mod Runs
 pub mod Laws

@@ -1,5 +1,6 @@
 -- A call other than build leaves an open book open.
-use Rattle.std.proofs.Common.{◌≡◌, ℕ, Bool, true, false, cond, sym, refl, ap, ◌∙◌, arith}
+use Rattle.std.proofs.Common.{◌≡◌, ℕ, Bool, true, false, cond, List, sym, refl, ap, ◌∙◌, arith}
+use Rattle.std.specs.Borrow.{Bor}
 use Rattle.calls.specs.Marked.{MarkedForm}
 use Rattle.calls.specs.Calls.{RecordOf}
 use Rattle.calls.specs.Runs.{CallOf, enter, alter, unmade, strike, attach, set, build, reopen, report, first, find, open_answer, open_after, built_after, World, after}
@@ -21,7 +22,7 @@ enter_not r e = let z : ◌≡◌ {A = ℕ} 0 1 = cc in omega arith
 alter_not : (k : ℕ) (r : RecordOf) → alter k r ≡ build → ⊥
 alter_not k r e = let z : ◌≡◌ {A = ℕ} 0 1 = cc in omega arith
 
-pub unbuilt : (k : Call) → (k ≡ Build → ⊥) → called k ≡ build → ⊥
+pub unbuilt : (k : Call (Bor (List ℕ))) → (k ≡ Build → ⊥) → called k ≡ build → ⊥
 unbuilt (Enter r) h e = differs _ _ (can_make r) (enter_not _) unmade_not e
 unbuilt (Alter n r) h e = differs _ _ (can_make r) (alter_not n _) unmade_not e
 unbuilt Unmade h e = unmade_not e

@@ -18,6 +18,11 @@ said (First b) = first_told b
 said (Place p) = place_found p
 said NotNow = not_now
 
+-- the answer of a call that may be refused
+abbrev pub said_or : Result Answer Refusal → runs.Answer
+said_or (Ok a) = said a
+said_or (Err e) = refused e
+
 -- what a find answers
 abbrev pub placed_or : Result ℕ Refusal → runs.Answer
 placed_or (Ok p) = place_found p

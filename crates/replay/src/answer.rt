@@ -1,3 +1,6 @@
+ghost use Rattle.std.specs.Prelude.{◌≡◌};
+ghost use Rattle.replay.specs.declared.answer.Answer.TheVariants as answer;
+
 use form::Refusal;
 use rules::Breach;
 
@@ -17,4 +20,12 @@ pub enum Answer {
     Place(usize),
     /// the book is open and the call is one of a built book, or the other way round
     NotNow,
+}
+
+impl From<Refusal> for Answer {
+    ghost from_gives = { λ e a. a ≡ answer.Refused e };
+
+    fn from(refusal: Refusal) -> Answer {
+        Answer::Refused(refusal)
+    }
 }

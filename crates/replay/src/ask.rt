@@ -1,7 +1,7 @@
 ghost use Rattle.std.specs.Prelude.{◌≡◌, true, IfOk, OnErr};
 ghost use Rattle.form.specs.Keys.{keys_of};
 ghost use Rattle.rules.specs.Report.{breaches};
-ghost use Rattle.calls.specs.Runs.{by_letter, find_answer, listed_or};
+ghost use Rattle.calls.specs.Runs.{find_answer, listed_or};
 ghost use Rattle.calls.specs.Called.{sought, called};
 ghost use Rattle.replay.specs.Said.{said, placed_or, asked_answer, asks_report};
 
@@ -12,32 +12,18 @@ use form::{FormSource, Keyed, Refusal, letter};
 use report::{first, report_all};
 use std::alloc::{AllocError, Global};
 
-fn placed(found: Result<usize, Refusal>) -> Answer
-    ensures { said result ≡ placed_or found }
-{
-    match found {
-        Ok(place) => Answer::Place(place),
-        Err(refusal) => Answer::Refused(refusal),
-    }
-}
-
-// a letter that is no scalar value is no key's
-fn seek_letter<K: Keyed>(form: &K, code: u32) -> Answer
-    ensures { said result ≡ find_answer (by_letter code) (keys_of (K.FormSource.form form.now)) }
-{
-    match letter(code) {
-        Ok(c) => placed(find::<K, ByLetter>(form, c)),
-        Err(_) => Answer::Refused(Refusal::NoSuchKey),
-    }
-}
-
-fn seek<K: Keyed>(form: &K, key: Sought<'_>) -> Answer
-    ensures { said result ≡ find_answer (sought key.entry) (keys_of (K.FormSource.form form.now)) }
+// the place of the argument that has the key
+fn seek<K: Keyed>(form: &K, key: Sought<&[u8]>) -> Result<usize, Refusal>
+    ensures { placed_or result ≡ find_answer (sought key.entry) (keys_of (K.FormSource.form form.now)) }
 {
     match key {
-        Sought::Position(position) => placed(find::<K, ByPosition>(form, position)),
-        Sought::Letter(code) => seek_letter(form, code),
-        Sought::Long(name) => placed(find::<K, ByLong<'_>>(form, name)),
+        Sought::Position(position) => find::<K, ByPosition>(form, position),
+        Sought::Letter(code) => {
+            // a letter that is no scalar value is no key's
+            let letter = letter(code).map_err(|_| Refusal::NoSuchKey)?;
+            find::<K, ByLetter>(form, letter)
+        }
+        Sought::Long(name) => find::<K, ByLong<'_>>(form, name),
     }
 }
 
@@ -53,14 +39,17 @@ fn ask_report<F: FormSource>(heap: Global, form: &F, room: usize) -> Result<Answ
 }
 
 /// What a built book, or a form over it, answers to a call other than reopen; it fails only for want of memory for a report.
-pub(crate) fn ask<K: Keyed>(heap: Global, form: &K, call: Call<'_>) -> Result<Answer, AllocError>
+pub(crate) fn ask<K: Keyed>(heap: Global, form: &K, call: Call<&[u8]>) -> Result<Answer, AllocError>
     ensures answer { IfOk result (λ a. said a ≡ asked_answer (K.FormSource.form form.now) (called call.entry)) }
     ensures memory { OnErr result (asks_report (called call.entry) ≡ true) }
 {
     match call {
         Call::Report(room) => ask_report(heap, form, room),
         Call::First => Ok(Answer::First(first(form))),
-        Call::Find(key) => Ok(seek(form, key)),
+        Call::Find(key) => Ok(match seek(form, key) {
+            Ok(place) => Answer::Place(place),
+            Err(refusal) => Answer::from(refusal),
+        }),
         _ => Ok(Answer::NotNow),
     }
 }

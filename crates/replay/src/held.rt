@@ -16,14 +16,14 @@ use calls::Call;
 use std::alloc::{AllocError, Global};
 
 // an open book after a call
-fn call_open(mut book: OpenBook, call: Call<'_>) -> (HeldBook, Answer)
+fn call_open(mut book: OpenBook, call: Call<&[u8]>) -> (HeldBook, Answer)
     ensures answer { said result.1 ≡ open_answer (open_marked book) (called call.entry) }
     ensures after { world result.0 ≡ after (open_world book) (called call.entry) }
 {
     if let Call::Build = call {
         return (HeldBook::Built(book.build()), Answer::Done);
     }
-    let answer = change(&mut book, call);
+    let answer = change(&mut book, call).unwrap_or_else(|refusal| Answer::from(refusal));
     (HeldBook::Open(book), answer)
 }
 
@@ -32,7 +32,7 @@ fn call_built(
     heap: Global,
     layers: Layers,
     book: BuiltBook,
-    call: Call<'_>,
+    call: Call<&[u8]>,
 ) -> (HeldBook, Result<Answer, AllocError>)
     ensures answer { IfOk result.1 (λ a. said a ≡ built_answer (under layers (form_of (built_marked book))) (called call.entry)) }
     ensures after { world result.0 ≡ after (built_world book) (called call.entry) }
@@ -59,7 +59,7 @@ impl HeldBook {
         self,
         heap: Global,
         layers: Layers,
-        call: Call<'_>,
+        call: Call<&[u8]>,
     ) -> (HeldBook, Result<Answer, AllocError>)
         ensures answer { IfOk result.1 (λ a. said a ≡ answer (under layers) (world self) (called call.entry)) }
         ensures after { world result.0 ≡ after (world self) (called call.entry) }

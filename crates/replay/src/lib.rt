@@ -6,6 +6,7 @@ mod ask;
 mod book_held;
 mod change;
 mod held;
+mod ranged;
 mod run;
 mod under;
 

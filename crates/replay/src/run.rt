@@ -13,7 +13,7 @@ use std::alloc::{AllocError, Global};
 
 /// Runs the calls on a new book, and hands back their answers; report, first and find ask the book itself.
 /// It fails only for want of memory.
-pub fn replay(heap: Global, calls: &[Call<'_>]) -> Result<Vec<Answer>, AllocError>
+pub fn replay(heap: Global, calls: &[Call<&[u8]>]) -> Result<Vec<Answer>, AllocError>
     ensures exact { IfOk result (λ os. Exact plain (map called calls.now) (map said os.items)) }
     ensures marks { IfOk result (λ os. MarksRise (map said os.items)) }
     ensures lists { IfOk result (λ os. AllListed plain (map called calls.now) (map said os.items)) }
@@ -28,7 +28,7 @@ pub fn replay(heap: Global, calls: &[Call<'_>]) -> Result<Vec<Answer>, AllocErro
 pub fn replay_under(
     heap: Global,
     layers: Layers,
-    calls: &[Call<'_>],
+    calls: &[Call<&[u8]>],
 ) -> Result<Vec<Answer>, AllocError>
     ensures exact { IfOk result (λ os. Exact (under layers) (map called calls.now) (map said os.items)) }
     ensures marks { IfOk result (λ os. MarksRise (map said os.items)) }
@@ -39,7 +39,7 @@ pub fn replay_under(
 }
 
 // the calls one after another
-fn run(heap: Global, layers: Layers, calls: &[Call<'_>]) -> Result<Vec<Answer>, AllocError>
+fn run(heap: Global, layers: Layers, calls: &[Call<&[u8]>]) -> Result<Vec<Answer>, AllocError>
     ensures { IfOk result (λ os. map said os.items ≡ answers (under layers) start (map called calls.now)) }
 {
     let mut told = Vec::new(heap);

@@ -7,20 +7,10 @@ ghost use Rattle.sinks.specs.Sinks.{fold, bump, put};
 
 use super::short::ListShort;
 use form::FormSource;
-use rules::{Breach, Rule};
+use rules::Breach;
 use sinks::{Count, Fill, First};
 use std::alloc::{AllocError, Global};
 use survey::survey;
-
-// what stands in a list before a report fills it
-const UNUSED: Breach = Breach {
-    rule: Rule::FormCut,
-    first: None,
-    second: None,
-    list: None,
-    item: 0,
-    other: 0,
-};
 
 /// Lists every breach of the form, each once, in order, at the front of the list, and answers their number.
 /// A list that is shorter is refused with 109 and the number needed, and left as it was.
@@ -72,7 +62,7 @@ pub fn report_all<F: FormSource>(heap: Global, form: &F) -> Result<Vec<Breach>, 
     ensures value { IfOk result (λ v. v.items ≡ breaches (F.FormSource.form form.now)) }
     ensures lists { IfOk result (λ v. Lists (F.FormSource.form form.now) v.items) }
 {
-    let mut list = vec![in heap; UNUSED; count(form)]?;
+    let mut list = vec![in heap; Breach::UNUSED; count(form)]?;
     fill(form, list.as_mut_slice());
     Ok(list)
 }

@@ -1,10 +1,18 @@
 -- Walks over the places of a list that offer what each element tells, and parts that follow one another.
-use Rattle.std.proofs.Common.{◌≡◌, ℕ, suc, ◌+◌, ◌-◌, ◌<◌, ◌≤◌, Bool, true, false, not, List, [], ◌∷◌, ◌++◌, length, get_or, drop, sym, refl, ap, ◌∙◌, subst, add-zero, add-suc, suc-add, add-one, arith, length-drop, get_or-drop, drop-cons}
-use borrow.Author.Tests.{not-false}
+use Rattle.std.proofs.Common.{◌≡◌, ℕ, suc, ◌+◌, ◌-◌, ◌<◌, ◌≤◌, Bool, true, false, List, [], ◌∷◌, ◌++◌, length, get_or, drop, sym, refl, ap, ◌∙◌, subst, add-zero, add-suc, suc-add, add-one, arith, length-drop, get_or-drop, drop-cons}
+use Rattle.std.proofs.Common.{Break, Some, None, Option}
+use Rattle.std.specs.Option.{is_some, option_eq}
+use borrow.Author.Tests.{clash}
+use Rattle.rules.specs.Rows.{same_if}
+use Rattle.std.specs.Bool.{⊤}
+use Rattle.std.specs.ControlFlow.{break_value}
+use Rattle.std.specs.declared.ops.ControlFlow.{ControlFlow}
+use Rattle.sinks.specs.Flow.{flow}
+use Rattle.sinks.specs.declared.sink.Sink.{Ghosts}
 use Rattle.std.specs.List.{range_with_len}
 use Rattle.std.proofs.lemmas.List.FromFn.{length-range_with_len}
 use Rattle.std.proofs.lemmas.List.{drop_all}
-use Rattle.rules.specs.Order.{blocks, when}
+use Rattle.rules.specs.Order.{blocks}
 use Rattle.rules.specs.declared.breach.Breach.{Breach}
 use Rattle.sinks.specs.Alike.{between}
 
@@ -36,41 +44,46 @@ pub between_is : {X : Type 0} (t : ℕ → List Breach) (h : ℕ → X → List 
 between_is t h d n m xs e same =
     alike t h d n (drop n (range_with_len 0 m)) (drop n xs) (simp (length-drop, length-range_with_len) (ap (λ k. k - n) e)) (λ i. rw get_or-drop (same (n + i)))
 
--- A walk from the place n on: its invariant, from the state s, at the place i with the state t.
-abbrev pub Walked : {S X : Type 0} → (S → List Breach → S → Type 0) → (ℕ → X → List Breach) → ℕ → List X → S → ℕ → S → Type 0
-Walked {S} after h n xs s i t = (u : S) → after t (blocks h i (drop i xs)) u → after s (blocks h n (drop n xs)) u
+-- A walk from the place n on: from the state s it has come to the place i, and the state t.
+pub record Walked {S X : Type 0} (k : Ghosts S) (h : ℕ → X → List Breach) (n : ℕ) (xs : List X) (s : S) (i : ℕ) (t : S) : Type 0 where
+  pub rest : (u : S) → k.after t (blocks h i (drop i xs)) u → k.after s (blocks h n (drop n xs)) u
 
 -- one turn more
-pub walk_step : {S X : Type 0} (after : S → List Breach → S → Type 0) → ((s t u : S) (xs ys : List Breach) → after s xs t → after t ys u → after s (xs ++ ys) u)
-    → (h : ℕ → X → List Breach) (n : ℕ) (xs : List X) (d : X) (s t t' : S) (i : ℕ) → i < length xs → Walked after h n xs s i t → after t (h i (get_or xs i d)) t' → Walked after h n xs s (i + 1) t'
-walk_step after more h n xs d s t t' i l w here = λ u a. w u (rw (blocks_more h i xs d l) (more t t' u _ _ here a))
+pub walk_step : {S X : Type 0} {k : Ghosts S} {h : ℕ → X → List Breach} {n : ℕ} {xs : List X} {s t t' : S} {i : ℕ} (d : X) → i < length xs → Walked k h n xs s i t → k.after t (h i (get_or xs i d)) t' → Walked k h n xs s (i + 1) t'
+walk_step {S} {X} {k} {h} {n} {xs} {s} {t} {t'} {i} d l w here = record { rest = λ u a. w.rest u (rw (blocks_more h i xs d l) (k.more t t' u _ _ here a)) }
 
 -- the end of the list
-pub walk_end : {S X : Type 0} (after : S → List Breach → S → Type 0) → ((s : S) → after s [] s)
-    → (h : ℕ → X → List Breach) (n : ℕ) (xs : List X) (s t : S) (i : ℕ) → length xs ≤ i → Walked after h n xs s i t → after s (blocks h n (drop n xs)) t
-walk_end after none h n xs s t i l w = w t (rw (blocks_all h i xs l) (none t))
+pub walk_end : {S X : Type 0} {k : Ghosts S} {h : ℕ → X → List Breach} {n : ℕ} {xs : List X} {s t : S} {i : ℕ} → length xs ≤ i → Walked k h n xs s i t → k.after s (blocks h n (drop n xs)) t
+walk_end {S} {X} {k} {h} {n} {xs} {s} {t} {i} l w = w.rest t (rw (blocks_all h i xs l) (k.none t))
 
--- a sink that takes no more
-pub walk_stop : {S X : Type 0} (after : S → List Breach → S → Type 0) → ((s t u : S) (xs ys : List Breach) → after s xs t → after t ys u → after s (xs ++ ys) u)
-    → (h : ℕ → X → List Breach) (n : ℕ) (xs : List X) (d : X) (s t t' : S) (i : ℕ) → ((ys : List Breach) → after t' ys t') → i < length xs → Walked after h n xs s i t → after t (h i (get_or xs i d)) t' → after s (blocks h n (drop n xs)) t'
-walk_stop after more h n xs d s t t' i stays l w here = walk_step after more h n xs d s t t' i l w here t' (stays _)
+-- a sink that breaks off is full
+broken_off : (f : Bool) (b : ⊤) → Break b ≡ flow f → f ≡ true
+broken_off true b e = refl
+broken_off false b e = cc
 
--- one test: what was offered where it holds, nothing where it fails
-pub when_yes : {S : Type 0} (after : S → List Breach → S → Type 0) (s t : S) (b : Bool) (x y : Breach) → b ≡ true → x ≡ y → after s (x ∷ []) t → after s (when b y) t
-when_yes after s t b x y e is a = rw (e, ← is) a
+-- a turn that breaks off: what would follow changes nothing
+pub walk_stop : {S X : Type 0} {k : Ghosts S} {h : ℕ → X → List Breach} {n : ℕ} {xs : List X} {s t t' : S} {i : ℕ} {b : ⊤} (d : X) → i < length xs → Walked k h n xs s i t → k.after t (h i (get_or xs i d)) t' → Break b ≡ flow (k.full t') → k.after s (blocks h n (drop n xs)) t'
+walk_stop {S} {X} {k} {h} {n} {xs} {s} {t} {t'} {i} {b} d l w here off = (walk_step d l w here).rest t' (k.stays t' _ (broken_off (k.full t') b off))
 
-pub when_no : {S : Type 0} (after : S → List Breach → S → Type 0) → ((s : S) → after s [] s) → (s : S) (b : Bool) (y : Breach) → b ≡ false → after s (when b y) s
-when_no after none s b y e = rw e (none s)
+-- a part that breaks off, with what would follow
+pub then_stop : {S : Type 0} (k : Ghosts S) (xs ys : List Breach) {s t : S} {b : ⊤} → k.after s xs t → Break b ≡ flow (k.full t) → k.after s (xs ++ ys) t
+then_stop {S} k xs ys {s} {t} {b} a off = k.more s t t xs ys a (k.stays t ys (broken_off (k.full t) b off))
 
--- a test and a breach under their other names
-pub when_as : {S : Type 0} (after : S → List Breach → S → Type 0) (s t : S) (b b' : Bool) (x y : Breach) → b ≡ b' → x ≡ y → after s (when b x) t → after s (when b' y) t
-when_as after s t b b' x y e is a = rw (← e, ← is) a
+-- a part, and what follows
+pub then_more : {S : Type 0} (k : Ghosts S) (xs ys : List Breach) {s t u : S} → k.after s xs t → k.after t ys u → k.after s (xs ++ ys) u
+then_more {S} k xs ys {s} {t} {u} a b = k.more s t u xs ys a b
 
--- a part that leaves the sink full: what would follow changes nothing
-pub then_stop : {S : Type 0} (after : S → List Breach → S → Type 0) → ((s t u : S) (xs ys : List Breach) → after s xs t → after t ys u → after s (xs ++ ys) u)
-    → (s t : S) (xs ys : List Breach) → ((zs : List Breach) → after t zs t) → after s xs t → after s (xs ++ ys) t
-then_stop after more s t xs ys stays a = more s t t xs ys a (stays ys)
+-- what is there is the same as what is there too
+pub same_there : {X : Type 0} (same : X → X → Bool) (x y : Option X) → is_some x ≡ true → option_eq same x y ≡ same_if same x y
+same_there same None y e = absurd (clash e)
+same_there same (Some x) None e = refl
+same_there same (Some x) (Some y) e = refl
 
--- a refusal to go on says that the sink is full
-pub stopped : (r f : Bool) → r ≡ not f → r ≡ false → f ≡ true
-stopped r f goes e = not-false f (sym goes ∙ e)
+pub absent : {X : Type 0} (x : Option X) → is_some x ≡ false → x ≡ None
+absent None e = refl
+absent (Some x) e = absurd (clash (sym e))
+
+-- an answer that is a break, as `?` would tell it
+pub breaks : {r : ControlFlow ⊤ ⊤} {b : Bool} (f : Bool) → r ≡ flow f → b ≡ is_some (break_value r) → b ≡ true → Break tt ≡ flow f
+breaks true goes is e = refl
+breaks false goes is e = absurd (clash (sym (rw goes at is) ∙ e))

@@ -1,3 +1,4 @@
+pub mod Flow
 pub mod Alike
 pub mod Offers
 pub mod Sinks

@@ -1,66 +1,18 @@
-ghost use Rattle.std.specs.Prelude.{◌≡◌, ℕ, Bool, true, false, not, None, Option, nat_eq};
-ghost use Rattle.std.specs.Str.{bytes_eq};
+ghost use Rattle.std.specs.Prelude.{◌≡◌, ℕ, Bool, false, None, Option};
 ghost use Rattle.rules.specs.Order.{when};
 ghost use Rattle.rules.specs.Rows.{same_if};
 ghost use Rattle.rules.specs.declared.breach.Breach.{Breach};
-ghost use Rattle.sinks.specs.Alike.{Equivalence, numbers_same, marks_same, names_same, between};
+ghost use Rattle.sinks.specs.Flow.{flow};
+ghost use Rattle.sinks.specs.Alike.{between};
 
+use super::offers::offer_if;
 use super::sink::Sink;
 use rules::Breach;
-
-/// Values of which two can be the same.
-pub trait Same {
-    ghost same: { Self → Self → Bool };
-
-    ghost laws: { Equivalence (λ x y. same x y ≡ true) };
-
-    fn is_same(&self, other: &Self) -> bool
-        ensures { result ≡ same self.now other.now };
-}
-
-impl Same for u16 {
-    ghost same = { nat_eq };
-
-    ghost laws = { numbers_same };
-
-    fn is_same(&self, other: &u16) -> bool {
-        *self == *other
-    }
-}
-
-impl Same for char {
-    ghost same = { nat_eq };
-
-    ghost laws = { numbers_same };
-
-    fn is_same(&self, other: &char) -> bool {
-        *self == *other
-    }
-}
-
-impl Same for () {
-    ghost same = { λ _ _. true };
-
-    ghost laws = { marks_same };
-
-    fn is_same(&self, _other: &()) -> bool {
-        true
-    }
-}
-
-impl Same for &[u8] {
-    ghost same = { λ x y. bytes_eq x.now y.now };
-
-    ghost laws = { names_same (λ x. x.now) };
-
-    fn is_same(&self, other: &&[u8]) -> bool {
-        **self == **other
-    }
-}
+use std::ops::ControlFlow;
 
 /// A row of elements, some of which may be absent, with the breach to tell of a place whose element is met again.
 pub trait Row {
-    type Element: Same + Copy;
+    type Element: Eq + Copy;
 
     // whether x and the element at a place are both there, and the same
     ghost twin: { Self → Option Self.Element → ℕ → Bool };
@@ -71,7 +23,7 @@ pub trait Row {
     ghost tells: { Self → ℕ → Breach };
 
     fn at(&self, place: usize) -> Option<Self::Element>
-        ensures { (x : Option Self.Element) → same_if Self.Element.Same.same x result ≡ twin self.now x place };
+        ensures { (x : Option Self.Element) → same_if Self.Element.PartialEq.eq x result ≡ twin self.now x place };
 
     fn tell(&self, place: usize) -> Breach
         ensures { result ≡ tells self.now place };
@@ -84,20 +36,15 @@ pub fn offer_same<R: Row, S: Sink>(
     from: usize,
     to: usize,
     sink: &mut S,
-) -> bool
+) -> ControlFlow<()>
     ensures took { S.Sink.after sink.old (between (λ j. when (R.Row.twin row.now sought j) (R.Row.tells row.now j)) from to) sink.new }
-    ensures goes { result ≡ not (S.Sink.full sink.new) }
+    ensures goes { result ≡ flow (S.Sink.full sink.new) }
 {
-    let Some(x) = sought else {
-        return !sink.is_full();
-    };
-    for place in from..to {
-        let Some(y) = row.at(place) else {
-            continue;
-        };
-        if x.is_same(&y) && !sink.offer(row.tell(place)) {
-            return false;
-        }
+    if sought.is_none() {
+        return sink.go_on();
     }
-    !sink.is_full()
+    for place in from..to {
+        offer_if(sought == row.at(place), row.tell(place), sink)?;
+    }
+    sink.go_on()
 }

@@ -2,9 +2,11 @@ ghost use Rattle.std.specs.Prelude.{◌≡◌, Bool, true, false, not, List, [],
 ghost use Rattle.std.proofs.Common.{◌∙◌};
 ghost use borrow.Author.Tests.{clash, leb-true};
 ghost use Rattle.rules.specs.declared.breach.Breach.{Breach};
+ghost use Rattle.sinks.specs.Flow.{flow};
 ghost use Rattle.sinks.specs.Sinks.{bump, keep, kept_stays, put, put_stays, fold, fold_none, fold_more};
 
 use rules::Breach;
+use std::ops::ControlFlow;
 
 /// Something that breaches are offered to, one after another.
 pub trait Sink {
@@ -21,13 +23,24 @@ pub trait Sink {
     ghost stays: { (s : Self) (xs : List Breach) → full s ≡ true → after s xs s };
 
     /// Offers a breach, and tells whether to go on.
-    fn offer(&mut self, breach: Breach) -> bool
+    fn offer(&mut self, breach: Breach) -> ControlFlow<()>
         ensures took { after self.old (breach ∷ []) self.new }
-        ensures goes { result ≡ not (full self.new) };
+        ensures goes { result ≡ flow (full self.new) };
 
     /// Whether the sink takes no more.
     fn is_full(&self) -> bool
         ensures { result ≡ full self.now };
+
+    /// Goes on while the sink takes more.
+    fn go_on(&self) -> ControlFlow<()>
+        ensures { result ≡ flow (full self.now) }
+    {
+        if self.is_full() {
+            ControlFlow::Break(())
+        } else {
+            ControlFlow::Continue(())
+        }
+    }
 }
 
 /// A sink that counts what it is offered.
@@ -47,9 +60,9 @@ impl Sink for Count {
 
     ghost stays = { λ s xs f. absurd (clash f) };
 
-    fn offer(&mut self, _breach: Breach) -> bool {
+    fn offer(&mut self, _breach: Breach) -> ControlFlow<()> {
         self.count = self.count.saturating_add(1);
-        true
+        self.go_on()
     }
 
     fn is_full(&self) -> bool {
@@ -74,11 +87,11 @@ impl Sink for First {
 
     ghost stays = { λ s xs f. kept_stays s.kept xs f };
 
-    fn offer(&mut self, breach: Breach) -> bool {
+    fn offer(&mut self, breach: Breach) -> ControlFlow<()> {
         if self.kept.is_none() {
             self.kept = Some(breach);
         }
-        false
+        self.go_on()
     }
 
     fn is_full(&self) -> bool {
@@ -87,6 +100,7 @@ impl Sink for First {
 }
 
 /// A sink that fills a list from the front, and leaves the rest of it.
+// A slice that shrinks as it is filled would be no plainer: callers ask for the count.
 #[derive(Drop)]
 pub struct Fill<'a> {
     pub room: &'a mut [Breach],
@@ -104,12 +118,12 @@ impl Sink for Fill<'_> {
 
     ghost stays = { λ s xs f. (refl, put_stays s.room.now s.count xs (leb-true (length s.room.now) s.count f)) };
 
-    fn offer(&mut self, breach: Breach) -> bool {
+    fn offer(&mut self, breach: Breach) -> ControlFlow<()> {
         if self.count < self.room.len() {
             self.room[self.count] = breach;
             self.count += 1;
         }
-        self.count < self.room.len()
+        self.go_on()
     }
 
     fn is_full(&self) -> bool {

@@ -4,6 +4,8 @@ ghost use Rattle.rules.specs.Told as told;
 use form::{EntryKind, ItemList};
 use rules::{Breach, Entry, Rule};
 
+// Each kind of entry has its own constructor: one that takes the kind says no less at a call, and reads longer.
+
 /// The argument at a place.
 pub fn argument_at(place: usize) -> Entry
     ensures { result ≡ told.argument place }
@@ -53,12 +55,8 @@ pub fn of_one(rule: Rule, entry: Entry) -> Breach
     ensures { result ≡ told.of_one rule entry }
 {
     Breach {
-        rule,
         first: Some(entry),
-        second: None,
-        list: None,
-        item: 0,
-        other: 0,
+        ..of_form(rule)
     }
 }
 
@@ -67,12 +65,8 @@ pub fn of_bit(rule: Rule, entry: Entry, bit: usize) -> Breach
     ensures { result ≡ told.of_bit rule entry bit }
 {
     Breach {
-        rule,
-        first: Some(entry),
-        second: None,
-        list: None,
         item: bit,
-        other: 0,
+        ..of_one(rule, entry)
     }
 }
 
@@ -81,12 +75,9 @@ pub fn of_item(rule: Rule, entry: Entry, list: ItemList, item: usize) -> Breach
     ensures { result ≡ told.of_item rule entry list item }
 {
     Breach {
-        rule,
-        first: Some(entry),
-        second: None,
         list: Some(list),
         item,
-        other: 0,
+        ..of_one(rule, entry)
     }
 }
 
@@ -95,12 +86,8 @@ pub fn of_two(rule: Rule, first: Entry, second: Entry) -> Breach
     ensures { result ≡ told.of_two rule first second }
 {
     Breach {
-        rule,
-        first: Some(first),
         second: Some(second),
-        list: None,
-        item: 0,
-        other: 0,
+        ..of_one(rule, first)
     }
 }
 
@@ -109,11 +96,8 @@ pub fn of_flags(rule: Rule, first: Entry, item: usize, second: Entry, other: usi
     ensures { result ≡ told.of_flags rule first item second other }
 {
     Breach {
-        rule,
-        first: Some(first),
-        second: Some(second),
-        list: None,
         item,
         other,
+        ..of_two(rule, first, second)
     }
 }

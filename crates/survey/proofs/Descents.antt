@@ -13,6 +13,11 @@ use Rattle.rules.specs.Told.{argument, of_one}
 use Rattle.rules.specs.declared.rule.Rule.TheVariants.{OptionalBeforeRequired}
 use Rattle.rules.specs.declared.breach.Breach.{Breach}
 use Rattle.survey.specs.Settled.{settles}
+use Rattle.std.specs.Bool.{⊤}
+use Rattle.std.proofs.Common.{Break}
+use Rattle.sinks.specs.Flow.{flow}
+use Rattle.sinks.specs.declared.sink.Sink.{Ghosts}
+use Rattle.sinks.proofs.Walks.{then_stop}
 
 -- where the place does not matter, neither does the first place
 pub blocks_shift : {X : Type 0} (h : X → List Breach) (m n : ℕ) (xs : List X) → blocks (λ _ x. h x) m xs ≡ blocks (λ _ x. h x) n xs
@@ -67,9 +72,8 @@ pub descent_end : {S : Type 0} (after : S → List Breach → S → Type 0) → 
     → (f : Form) (s t : S) (n : ℕ) (found : Bool) → n ≡ 0 → Descent after f s n t found → after s (told_down f (position_count f)) t
 descent_end after none f s t n found e d = d.rest t (rw (told_none f n e) (none t))
 
-pub descent_stop : {S : Type 0} (after : S → List Breach → S → Type 0) → ((s t u : S) (xs ys : List Breach) → after s xs t → after t ys u → after s (xs ++ ys) u)
-    → (f : Form) (s t t' : S) (n m : ℕ) (found : Bool) → n ≡ suc m → ((ys : List Breach) → after t' ys t') → Descent after f s n t found → after t (told_at f n) t' → after s (told_down f (position_count f)) t'
-descent_stop after more f s t t' n m found e stays d here = d.rest t' (rw (told_more f n m e) (more t t' t' _ _ here (stays _)))
+pub descent_stop : {S : Type 0} (k : Ghosts S) (f : Form) (s t t' : S) (n m : ℕ) (found : Bool) {b : ⊤} → n ≡ suc m → Descent k.after f s n t found → k.after t (told_at f n) t' → Break b ≡ flow (k.full t') → k.after s (told_down f (position_count f)) t'
+descent_stop k f s t t' n m found e d here off = d.rest t' (rw (told_more f n m e) (then_stop k _ _ here off))
 
 -- One position: the first argument there tells, and settles it; none does neither.
 pub told_some : (f : Form) (n p : ℕ) (b found : Bool) (x : Breach) → Some p ≡ first_at n 0 f.args → found ≡ settled_above f n → b ≡ (not (arg_set (arg_of f p).settings Required) && found) → x ≡ of_one OptionalBeforeRequired (argument p) → told_at f n ≡ when b x

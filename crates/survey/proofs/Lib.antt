@@ -1,6 +1,5 @@
 pub mod Counts
 pub mod Masks
-pub mod Members
 pub mod Pairs
 pub mod Tables
 pub mod Searches

@@ -7,24 +7,17 @@ use Rattle.rules.specs.declared.rule.Rule.{Rule}
 use Rattle.rules.specs.declared.breach.Breach.{Breach}
 use Rattle.rules.specs.Order.{blocks, when}
 use Rattle.rules.specs.Told.{group, of_item}
-use Rattle.rules.specs.Rows.{GroupRow, arg_ids, ids, missing}
+use Rattle.rules.specs.Rows.{GroupRow, missing}
 use Rattle.rules.specs.Report.{group_report}
-use Rattle.survey.specs.declared.known.Known.{Known}
-use Rattle.survey.specs.declared.known.Known.TheVariants.{Arguments, Entries}
 
 -- the group at a place
 abbrev pub group_of : Form → ℕ → Group
 group_of f p = slice_index_or f.groups p blank_group
 
--- the ids that a name is looked for among
-abbrev pub known_ids : Form → Known → List Name
-known_ids f Arguments = arg_ids f
-known_ids f Entries = ids f
-
 -- what the rows tell of the group at the place
 abbrev pub group_told : Form → ℕ → List GroupRow → List Breach
 group_told f p rows = blocks (λ _ r. group_report f p (group_of f p) r) 0 rows
 
--- the items of a list of the group that name nothing
-abbrev pub missing_told : Form → ℕ → ItemList → Known → Rule → List Breach
-missing_told f p l known r = blocks (λ k x. when (missing (known_ids f known) x) (of_item r (group p) l k)) 0 (names_at f l p)
+-- the items of a list of the group that are not among the known ids
+abbrev pub missing_told : Form → ℕ → ItemList → List Name → Rule → List Breach
+missing_told f p l ids r = blocks (λ k x. when (missing ids x) (of_item r (group p) l k)) 0 (names_at f l p)

@@ -5,4 +5,3 @@ pub mod Settled
 pub mod Ends
 pub mod FlagOwners
 pub mod Called
-pub mod Sections

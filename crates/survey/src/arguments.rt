@@ -1,15 +1,13 @@
-ghost use Rattle.std.specs.Prelude.{◌≡◌, ◌<◌, not, length};
+ghost use Rattle.std.specs.Prelude.{◌≡◌};
 ghost use Rattle.rules.specs.Report.{section_report};
 ghost use Rattle.rules.specs.Rows.{by_argument, arg_rows};
+ghost use Rattle.sinks.specs.Flow.{flow};
 ghost use Rattle.survey.specs.Parts.{rows_told, before_rows};
-ghost use Rattle.looks.specs.Records.{Shows};
 
-use super::items::{offer_item_rules, offer_own_conflicts};
-use super::own::{offer_after_rules, offer_name_rules, offer_value_rules};
-use super::twins::offer_twins;
-use super::value_settings::offer_value_settings;
-use form::{ArgView, FormSource, ItemList};
+use super::arg_at::ArgAt;
+use form::{FormSource, ItemList};
 use sinks::Sink;
+use std::ops::ControlFlow;
 
 /// The lists of an argument whose items name arguments or groups.
 const REFERENCES: [ItemList; 7] = [
@@ -23,52 +21,40 @@ const REFERENCES: [ItemList; 7] = [
 ];
 
 /// Offers what each argument breaks, and each item of its lists of references.
-pub(crate) fn survey_arguments<F: FormSource, S: Sink>(form: &F, sink: &mut S) -> bool
+// A rule of the project names this form: nested loops, left by their label at the first breach that fills the sink.
+pub(crate) fn survey_arguments<F: FormSource, S: Sink>(form: &F, sink: &mut S) -> ControlFlow<()>
     ensures took { S.Sink.after sink.old (section_report (F.FormSource.form form.now) (by_argument 4 arg_rows)) sink.new }
-    ensures goes { result ≡ not (S.Sink.full sink.new) }
+    ensures goes { result ≡ flow (S.Sink.full sink.new) }
 {
     'walk: for place in 0..form.arg_count() {
-        let arg = form.arg(place);
-        if !offer_before_items(form, place, &arg, sink) {
+        let arg = ArgAt::new(form, place);
+        if arg.offer_before_items(sink).is_break() {
             break 'walk;
         }
         for list in REFERENCES {
             for item in 0..form.name_count(list, place) {
-                if !offer_item_rules(form, place, &arg, list, item, sink) {
+                if arg.offer_item_rules(list, item, sink).is_break() {
                     break 'walk;
                 }
             }
         }
-        if !offer_after_rules(place, &arg, sink) {
+        if arg.offer_after_rules(sink).is_break() {
             break 'walk;
         }
     }
-    !sink.is_full()
+    sink.go_on()
 }
 
-// offers what the argument breaks of the rules that come before those on items
-fn offer_before_items<F: FormSource, S: Sink>(
-    form: &F,
-    place: usize,
-    arg: &ArgView<'_>,
-    sink: &mut S,
-) -> bool
-    requires shows { Shows (F.FormSource.form form.now) place arg.now }
-    requires stands { place < length (F.FormSource.form form.now).args }
-    ensures took { S.Sink.after sink.old (rows_told (F.FormSource.form form.now) place before_rows) sink.new }
-    ensures goes { result ≡ not (S.Sink.full sink.new) }
-{
-    if !offer_own_conflicts(form, place, arg, sink) {
-        return false;
+impl<F: FormSource> ArgAt<'_, F> {
+    // offers what the argument breaks of the rules that come before those on items
+    fn offer_before_items<S: Sink>(&self, sink: &mut S) -> ControlFlow<()>
+        ensures took { S.Sink.after sink.old (rows_told (F.FormSource.form self.now.form.now) self.now.place before_rows) sink.new }
+        ensures goes { result ≡ flow (S.Sink.full sink.new) }
+    {
+        self.offer_own_conflicts(sink)?;
+        self.offer_value_rules(sink)?;
+        self.offer_value_settings(sink)?;
+        self.offer_name_rules(sink)?;
+        self.offer_twins(sink)
     }
-    if !offer_value_rules(place, arg, sink) {
-        return false;
-    }
-    if !offer_value_settings(place, arg, sink) {
-        return false;
-    }
-    if !offer_name_rules(form, place, arg, sink) {
-        return false;
-    }
-    offer_twins(form, place, arg, sink)
 }

@@ -4,6 +4,7 @@ ghost use Rattle.form.specs.Model.{Form};
 ghost use Rattle.rules.specs.Rows as rows;
 ghost use Rattle.survey.specs.Ends.{ends_report, ends_told, is_elsewhere, is_open_below, paired};
 ghost use Rattle.looks.specs.Records.{seen};
+ghost use Rattle.sinks.specs.Flow.{flow};
 
 use super::indices::count_positions;
 use super::positions::first_at;
@@ -11,6 +12,7 @@ use form::{ArgSettings, ArgView, FormSource};
 use looks::{index_or_0, is_many, is_multiple, is_open, is_positional};
 use rules::Rule;
 use sinks::{Sink, argument_at, of_two, offer_if};
+use std::ops::ControlFlow;
 
 /// Whether it is positional and multiple, and not at the highest position.
 fn is_elsewhere(arg: &ArgView<'_>, highest: u16) -> bool
@@ -24,12 +26,7 @@ fn multiple_elsewhere<F: FormSource>(form: &F) -> bool
     ensures { result ≡ rows.multiple_elsewhere (F.FormSource.form form.now) }
 {
     let highest = count_positions(form).highest;
-    for place in 0..form.arg_count() {
-        if is_elsewhere(&form.arg(place), highest) {
-            return true;
-        }
-    }
-    false
+    (0..form.arg_count()).any(|place| is_elsewhere(&form.arg(place), highest))
 }
 
 /// Whether it is positional, open and not terminated, and below the position.
@@ -43,12 +40,7 @@ fn is_open_below(arg: &ArgView<'_>, position: u16) -> bool
 fn open_below<F: FormSource>(form: &F, position: u16) -> bool
     ensures { result ≡ rows.open_below (F.FormSource.form form.now) position }
 {
-    for place in 0..form.arg_count() {
-        if is_open_below(&form.arg(place), position) {
-            return true;
-        }
-    }
-    false
+    (0..form.arg_count()).any(|place| is_open_below(&form.arg(place), position))
 }
 
 /// Whether it is positional, and its number of values neither fixed nor ended by a terminator.
@@ -62,13 +54,9 @@ fn is_wide(arg: &ArgView<'_>) -> bool
 fn wide_count<F: FormSource>(form: &F) -> usize
     ensures { result ≡ rows.wide_count (F.FormSource.form form.now) }
 {
-    let mut count = 0;
-    for place in 0..form.arg_count() {
-        if is_wide(&form.arg(place)) {
-            count += 1;
-        }
-    }
-    count
+    (0..form.arg_count())
+        .filter(|place| is_wide(&form.arg(*place)))
+        .count()
 }
 
 /// The places of the first arguments of the highest position and of the one before,
@@ -80,12 +68,8 @@ fn ends<F: FormSource>(form: &F) -> Option<(usize, usize)>
     if top == 0 || !multiple_elsewhere(form) {
         return None;
     }
-    let Some(last) = first_at(form, top) else {
-        return None;
-    };
-    let Some(before) = first_at(form, top - 1) else {
-        return None;
-    };
+    let last = first_at(form, top)?;
+    let before = first_at(form, top - 1)?;
     Some((last, before))
 }
 
@@ -122,33 +106,34 @@ fn too_many_wide<F: FormSource>(form: &F, last: &ArgView<'_>, before: &ArgView<'
 }
 
 /// Offers what the arguments at the two ends break.
-fn offer_ends<F: FormSource, S: Sink>(form: &F, last: usize, before: usize, sink: &mut S) -> bool
+fn offer_ends<F: FormSource, S: Sink>(
+    form: &F,
+    last: usize,
+    before: usize,
+    sink: &mut S,
+) -> ControlFlow<()>
     ensures took { S.Sink.after sink.old (ends_told (F.FormSource.form form.now) last before) sink.new }
-    ensures goes { result ≡ not (S.Sink.full sink.new) }
+    ensures goes { result ≡ flow (S.Sink.full sink.new) }
 {
     let last_arg = form.arg(last);
     let before_arg = form.arg(before);
     let first = argument_at(last);
     let second = argument_at(before);
     let open = open_before_optional(&last_arg, &before_arg);
-    if !offer_if(open, of_two(Rule::OpenBeforeOptional, first, second), sink) {
-        return false;
-    }
+    offer_if(open, of_two(Rule::OpenBeforeOptional, first, second), sink)?;
     let low = multiple_low(form, &last_arg, &before_arg);
-    if !offer_if(low, of_two(Rule::MultipleElsewhere, first, second), sink) {
-        return false;
-    }
+    offer_if(low, of_two(Rule::MultipleElsewhere, first, second), sink)?;
     let many = too_many_wide(form, &last_arg, &before_arg);
     offer_if(many, of_two(Rule::TooManyMultiple, first, second), sink)
 }
 
 /// Offers what the two highest positions break, where a multiple argument stands elsewhere than at the highest.
-pub(crate) fn survey_ends<F: FormSource, S: Sink>(form: &F, sink: &mut S) -> bool
+pub(crate) fn survey_ends<F: FormSource, S: Sink>(form: &F, sink: &mut S) -> ControlFlow<()>
     ensures took { S.Sink.after sink.old (ends_report (F.FormSource.form form.now)) sink.new }
-    ensures goes { result ≡ not (S.Sink.full sink.new) }
+    ensures goes { result ≡ flow (S.Sink.full sink.new) }
 {
     match ends(form) {
         Some((last, before)) => offer_ends(form, last, before, sink),
-        None => !sink.is_full(),
+        None => sink.go_on(),
     }
 }

@@ -9,11 +9,10 @@ ghost use Rattle.survey.specs.declared.flag_owners.FlagOwner.{FlagOwner};
 
 use super::flag_owners::FlagOwner;
 use form::{FormSource, ItemList};
-use sinks::Same;
 
 /// A kind of flag, over a form: each owner may have a flag of its own, and aliases.
 pub trait FlagKind {
-    type Flag: Same + Copy;
+    type Flag: Eq + Copy;
 
     type Source: FormSource;
 
@@ -42,14 +41,14 @@ pub trait FlagKind {
 
     fn own_flag(&self, owner: FlagOwner) -> Option<Self::Flag>
         ensures value { option_map plain result ≡ own (owner_in (form self.now) owner) }
-        ensures alike { (x y : Self.Flag) → Self.Flag.Same.same x y ≡ same (plain x) (plain y) };
+        ensures alike { (x y : Self.Flag) → Self.Flag.PartialEq.eq x y ≡ same (plain x) (plain y) };
 
     fn alias_count(&self, owner: FlagOwner) -> usize
         ensures { result ≡ length (aliases (owner_in (form self.now) owner)) };
 
     fn alias(&self, owner: FlagOwner, item: usize) -> Self::Flag
         ensures value { plain result ≡ slice_index_or (aliases (owner_in (form self.now) owner)) item blank }
-        ensures alike { (x y : Self.Flag) → Self.Flag.Same.same x y ≡ same (plain x) (plain y) };
+        ensures alike { (x y : Self.Flag) → Self.Flag.PartialEq.eq x y ≡ same (plain x) (plain y) };
 }
 
 /// Long flags.
@@ -171,7 +170,7 @@ pub(crate) fn flag_count<K: FlagKind>(kind: &K, owner: FlagOwner) -> usize
 
 /// A flag of an owner by its number: 0 is its own, an alias is 1 + its place.
 pub(crate) fn flag<K: FlagKind>(kind: &K, owner: FlagOwner, number: usize) -> Option<K::Flag>
-    ensures alike { (x : Option K.Flag) → same_if K.Flag.Same.same x result ≡ same_if K.FlagKind.same (option_map K.FlagKind.plain x) (option_map K.FlagKind.plain result) }
+    ensures alike { (x : Option K.Flag) → same_if K.Flag.PartialEq.eq x result ≡ same_if K.FlagKind.same (option_map K.FlagKind.plain x) (option_map K.FlagKind.plain result) }
     ensures value { option_map K.FlagKind.plain result ≡ slice_index_or (flags_in K.FlagKind.own K.FlagKind.aliases (owner_in (K.FlagKind.form kind.now) owner)) number None }
 {
     if number == 0 {

@@ -6,7 +6,7 @@ ghost use Rattle.survey.specs.FlagOwners.{owner_in, owner_numbered};
 
 use form::FormSource;
 use rules::Entry;
-use sinks::{Same, argument_at, subcommand_at};
+use sinks::{argument_at, subcommand_at};
 
 /// Something that has flags, told by its place in its table.
 #[derive(Clone, Copy)]
@@ -63,6 +63,6 @@ pub(crate) fn differ<F: FormSource>(form: &F, one: FlagOwner, other: FlagOwner) 
     match (one, other) {
         (FlagOwner::Subcommand(_), FlagOwner::Argument(_))
         | (FlagOwner::Argument(_), FlagOwner::Subcommand(_)) => true,
-        _ => !owner_id(form, one).is_same(&owner_id(form, other)),
+        _ => owner_id(form, one) != owner_id(form, other),
     }
 }

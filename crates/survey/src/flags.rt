@@ -6,12 +6,14 @@ ghost use Rattle.rules.specs.Rows.{same_if, by_long_flag, by_letter_flag};
 ghost use Rattle.rules.specs.Report.{flags_report, section_report};
 ghost use Rattle.rules.specs.declared.rule.Rule.TheVariants.{SameLongFlag, SameLetterFlag};
 ghost use Rattle.survey.specs.FlagOwners.{owner_in, flags_in, clash_told, flag_told, owner_told};
+ghost use Rattle.sinks.specs.Flow.{flow};
 
 use super::flag_kinds::{FlagKind, LetterFlags, LongFlags, flag, flag_count};
 use super::flag_owners::{FlagOwner, differ, owner_at, owner_count};
 use form::FormSource;
 use rules::{Breach, Entry, Rule};
 use sinks::{Row, Sink, of_flags, offer_same};
+use std::ops::ControlFlow;
 
 /// The flags of an owner, as a row; a twin of flag `item` of `first` breaks the rule.
 #[derive(Drop)]
@@ -49,12 +51,12 @@ fn offer_clashes<K: FlagKind, S: Sink>(
     item: usize,
     other: FlagOwner,
     sink: &mut S,
-) -> bool
+) -> ControlFlow<()>
     ensures took { S.Sink.after sink.old (clash_told K.FlagKind.same (flags_in K.FlagKind.own K.FlagKind.aliases) rule (owner_in (K.FlagKind.form kind.now) one) item (owner_in (K.FlagKind.form kind.now) other)) sink.new }
-    ensures goes { result ≡ not (S.Sink.full sink.new) }
+    ensures goes { result ≡ flow (S.Sink.full sink.new) }
 {
     if !differ(kind.source(), one, other) {
-        return !sink.is_full();
+        return sink.go_on();
     }
     let row = OwnerFlags {
         kind,
@@ -79,61 +81,60 @@ fn offer_flag<K: FlagKind, S: Sink>(
     number: usize,
     item: usize,
     sink: &mut S,
-) -> bool
+) -> ControlFlow<()>
     requires { number < length (owners (K.FlagKind.form kind.now)) }
     ensures took { S.Sink.after sink.old (flag_told K.FlagKind.same (flags_in K.FlagKind.own K.FlagKind.aliases) rule (K.FlagKind.form kind.now) number item) sink.new }
-    ensures goes { result ≡ not (S.Sink.full sink.new) }
+    ensures goes { result ≡ flow (S.Sink.full sink.new) }
 {
     let form = kind.source();
     let one = owner_at(form, number);
     for later in number + 1..owner_count(form) {
-        if !offer_clashes(kind, rule, one, item, owner_at(form, later), sink) {
-            return false;
-        }
+        offer_clashes(kind, rule, one, item, owner_at(form, later), sink)?;
     }
-    !sink.is_full()
+    sink.go_on()
 }
 
 /// Offers the clashes of the flags of owner `number` with those of later owners.
-fn offer_owner<K: FlagKind, S: Sink>(kind: &K, rule: Rule, number: usize, sink: &mut S) -> bool
+fn offer_owner<K: FlagKind, S: Sink>(
+    kind: &K,
+    rule: Rule,
+    number: usize,
+    sink: &mut S,
+) -> ControlFlow<()>
     requires { number < length (owners (K.FlagKind.form kind.now)) }
     ensures took { S.Sink.after sink.old (owner_told K.FlagKind.same (flags_in K.FlagKind.own K.FlagKind.aliases) rule (K.FlagKind.form kind.now) number) sink.new }
-    ensures goes { result ≡ not (S.Sink.full sink.new) }
+    ensures goes { result ≡ flow (S.Sink.full sink.new) }
 {
     let owner = owner_at(kind.source(), number);
     for item in 0..flag_count(kind, owner) {
-        if !offer_flag(kind, rule, number, item, sink) {
-            return false;
-        }
+        offer_flag(kind, rule, number, item, sink)?;
     }
-    !sink.is_full()
+    sink.go_on()
 }
 
 /// Offers the flags of a kind that two different owners have, flag by flag with those of each later owner.
-fn survey_flags<K: FlagKind, S: Sink>(kind: &K, rule: Rule, sink: &mut S) -> bool
+fn survey_flags<K: FlagKind, S: Sink>(kind: &K, rule: Rule, sink: &mut S) -> ControlFlow<()>
     ensures took { S.Sink.after sink.old (flags_report K.FlagKind.same (flags_in K.FlagKind.own K.FlagKind.aliases) rule (owners (K.FlagKind.form kind.now))) sink.new }
-    ensures goes { result ≡ not (S.Sink.full sink.new) }
+    ensures goes { result ≡ flow (S.Sink.full sink.new) }
 {
     for number in 0..owner_count(kind.source()) {
-        if !offer_owner(kind, rule, number, sink) {
-            return false;
-        }
+        offer_owner(kind, rule, number, sink)?;
     }
-    !sink.is_full()
+    sink.go_on()
 }
 
 /// Offers the long flags that two different owners have.
-pub(crate) fn survey_long_flags<F: FormSource, S: Sink>(form: &F, sink: &mut S) -> bool
+pub(crate) fn survey_long_flags<F: FormSource, S: Sink>(form: &F, sink: &mut S) -> ControlFlow<()>
     ensures took { S.Sink.after sink.old (section_report (F.FormSource.form form.now) (by_long_flag SameLongFlag)) sink.new }
-    ensures goes { result ≡ not (S.Sink.full sink.new) }
+    ensures goes { result ≡ flow (S.Sink.full sink.new) }
 {
     survey_flags(&LongFlags { form }, Rule::SameLongFlag, sink)
 }
 
 /// Offers the letter flags that two different owners have.
-pub(crate) fn survey_letter_flags<F: FormSource, S: Sink>(form: &F, sink: &mut S) -> bool
+pub(crate) fn survey_letter_flags<F: FormSource, S: Sink>(form: &F, sink: &mut S) -> ControlFlow<()>
     ensures took { S.Sink.after sink.old (section_report (F.FormSource.form form.now) (by_letter_flag SameLetterFlag)) sink.new }
-    ensures goes { result ≡ not (S.Sink.full sink.new) }
+    ensures goes { result ≡ flow (S.Sink.full sink.new) }
 {
     survey_flags(&LetterFlags { form }, Rule::SameLetterFlag, sink)
 }

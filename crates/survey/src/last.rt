@@ -5,36 +5,25 @@ ghost use Rattle.form.specs.declared.arg_settings.ArgSettings.TheVariants.{Requi
 ghost use Rattle.rules.specs.Report.{section_report};
 ghost use Rattle.rules.specs.Rows.{by_argument, whole, later, two_last, positional_last, required_last};
 ghost use Rattle.rules.specs.declared.rule.Rule.TheVariants.{TwoLast, RequiredLastWithSubcommands};
+ghost use Rattle.sinks.specs.Flow.{flow};
 
+use super::arg_at::ArgAt;
 use super::each::{ArgRules, survey_each};
-use super::rows::LastArgs;
+use super::rows::PositionalLast;
 use form::{AppSettings, ArgSettings, ArgView, FormSource};
 use rules::Rule;
-use sinks::{Sink, argument_at, offer_same, offer_tests};
+use sinks::{Sink, argument_at, offer_tests};
+use std::ops::ControlFlow;
 
 /// Offers each two arguments that are positional and last.
-pub(crate) fn survey_two_last<F: FormSource, S: Sink>(form: &F, sink: &mut S) -> bool
+pub(crate) fn survey_two_last<F: FormSource, S: Sink>(form: &F, sink: &mut S) -> ControlFlow<()>
     ensures took { S.Sink.after sink.old (section_report (F.FormSource.form form.now) (by_argument 48 (later TwoLast two_last ∷ []))) sink.new }
-    ensures goes { result ≡ not (S.Sink.full sink.new) }
+    ensures goes { result ≡ flow (S.Sink.full sink.new) }
 {
-    let count = form.arg_count();
-    for place in 0..count {
-        let row = LastArgs {
-            form,
-            rule: Rule::TwoLast,
-            first: argument_at(place),
-        };
-        if !offer_same(
-            looks::last_mark(&form.arg(place)),
-            &row,
-            place + 1,
-            count,
-            sink,
-        ) {
-            return false;
-        }
+    for place in 0..form.arg_count() {
+        ArgAt::new(form, place).offer_later(PositionalLast, Rule::TwoLast, sink)?;
     }
-    !sink.is_full()
+    sink.go_on()
 }
 
 /// The rule on a last argument that is required.
@@ -47,7 +36,7 @@ struct RequiredLastRules {
 impl ArgRules for RequiredLastRules {
     ghost tests = { λ s a. ((positional_last a && arg_set a.settings Required) && s.commanded, RequiredLastWithSubcommands) ∷ [] };
 
-    fn offer<S: Sink>(&self, place: usize, arg: &ArgView<'_>, sink: &mut S) -> bool {
+    fn offer<S: Sink>(&self, place: usize, arg: &ArgView<'_>, sink: &mut S) -> ControlFlow<()> {
         let required = looks::positional_last(arg) && arg.settings.is_set(ArgSettings::Required);
         let tests = [(
             required && self.commanded,
@@ -58,9 +47,12 @@ impl ArgRules for RequiredLastRules {
 }
 
 /// Offers each positional argument that is last and required, beside subcommands.
-pub(crate) fn survey_required_last<F: FormSource, S: Sink>(form: &F, sink: &mut S) -> bool
+pub(crate) fn survey_required_last<F: FormSource, S: Sink>(
+    form: &F,
+    sink: &mut S,
+) -> ControlFlow<()>
     ensures took { S.Sink.after sink.old (section_report (F.FormSource.form form.now) (by_argument 49 (whole RequiredLastWithSubcommands required_last ∷ []))) sink.new }
-    ensures goes { result ≡ not (S.Sink.full sink.new) }
+    ensures goes { result ≡ flow (S.Sink.full sink.new) }
 {
     let rules = RequiredLastRules {
         commanded: is_commanded(form),

@@ -1,6 +1,9 @@
 //! The survey of a form: one text that offers each breach, in the order of a report, to a sink.
+// A form and a sink go together through all of it, as two parameters: a struct that holds the `&mut` sink
+// would have to say in each contract that the sink stays the same one, and be no plainer.
 #![tactic(auto)]
 
+mod arg_at;
 mod arguments;
 mod each;
 mod ends;
@@ -25,4 +28,4 @@ mod version;
 mod whole;
 
 pub use sections::survey;
-pub use sinks::{Count, Fill, First, Row, Same, Sink, offer_same};
+pub use sinks::{Count, Fill, First, Row, Sink, offer_same};

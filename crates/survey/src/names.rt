@@ -5,10 +5,12 @@ ghost use Rattle.rules.specs.Report.{called, section_report, taken_rule};
 ghost use Rattle.rules.specs.Rows.{same_if, earlier, by_subcommand_name};
 ghost use Rattle.rules.specs.Told.{subcommand, of_flags};
 ghost use Rattle.survey.specs.Called.{subcommand_of, name_of, name_before, taken_told, name_told, names_told};
+ghost use Rattle.sinks.specs.Flow.{flow};
 
 use form::{FormSource, ItemList};
 use rules::{Breach, Rule};
 use sinks::{Row, Sink, of_flags, offer_same, subcommand_at};
+use std::ops::ControlFlow;
 
 /// How many names a subcommand has: its own and its aliases.
 fn name_count<F: FormSource>(form: &F, place: usize) -> usize
@@ -90,9 +92,9 @@ fn offer_taken<F: FormSource, S: Sink>(
     item: usize,
     place: usize,
     sink: &mut S,
-) -> bool
+) -> ControlFlow<()>
     ensures took { S.Sink.after sink.old (taken_told (F.FormSource.form form.now) later item place) sink.new }
-    ensures goes { result ≡ not (S.Sink.full sink.new) }
+    ensures goes { result ≡ flow (S.Sink.full sink.new) }
 {
     let row = EarlierNames {
         form,
@@ -110,42 +112,44 @@ fn offer_taken<F: FormSource, S: Sink>(
 }
 
 /// Offers the earlier names that are the same as name `item` of subcommand `later`.
-fn offer_name<F: FormSource, S: Sink>(form: &F, later: usize, item: usize, sink: &mut S) -> bool
+fn offer_name<F: FormSource, S: Sink>(
+    form: &F,
+    later: usize,
+    item: usize,
+    sink: &mut S,
+) -> ControlFlow<()>
     requires { later < length (F.FormSource.form form.now).subcommands }
     ensures took { S.Sink.after sink.old (name_told (F.FormSource.form form.now) later item) sink.new }
-    ensures goes { result ≡ not (S.Sink.full sink.new) }
+    ensures goes { result ≡ flow (S.Sink.full sink.new) }
 {
     for place in 0..=later {
-        if !offer_taken(form, later, item, place, sink) {
-            return false;
-        }
+        offer_taken(form, later, item, place, sink)?;
     }
-    !sink.is_full()
+    sink.go_on()
 }
 
 /// Offers the earlier names that are the same as a name of subcommand `later`.
-fn offer_names<F: FormSource, S: Sink>(form: &F, later: usize, sink: &mut S) -> bool
+fn offer_names<F: FormSource, S: Sink>(form: &F, later: usize, sink: &mut S) -> ControlFlow<()>
     requires { later < length (F.FormSource.form form.now).subcommands }
     ensures took { S.Sink.after sink.old (names_told (F.FormSource.form form.now) later) sink.new }
-    ensures goes { result ≡ not (S.Sink.full sink.new) }
+    ensures goes { result ≡ flow (S.Sink.full sink.new) }
 {
     for item in 0..name_count(form, later) {
-        if !offer_name(form, later, item, sink) {
-            return false;
-        }
+        offer_name(form, later, item, sink)?;
     }
-    !sink.is_full()
+    sink.go_on()
 }
 
 /// Offers the names of subcommands that an earlier name takes already.
-pub(crate) fn survey_subcommand_names<F: FormSource, S: Sink>(form: &F, sink: &mut S) -> bool
+pub(crate) fn survey_subcommand_names<F: FormSource, S: Sink>(
+    form: &F,
+    sink: &mut S,
+) -> ControlFlow<()>
     ensures took { S.Sink.after sink.old (section_report (F.FormSource.form form.now) by_subcommand_name) sink.new }
-    ensures goes { result ≡ not (S.Sink.full sink.new) }
+    ensures goes { result ≡ flow (S.Sink.full sink.new) }
 {
     for later in 0..form.subcommand_count() {
-        if !offer_names(form, later, sink) {
-            return false;
-        }
+        offer_names(form, later, sink)?;
     }
-    !sink.is_full()
+    sink.go_on()
 }

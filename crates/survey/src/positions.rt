@@ -3,32 +3,27 @@ ghost use Rattle.rules.specs.Report.{section_report};
 ghost use Rattle.rules.specs.Rows as rows;
 ghost use Rattle.looks.specs.Records.{seen};
 ghost use Rattle.survey.specs.Settled.{settles};
+ghost use Rattle.sinks.specs.Flow.{flow};
 
 use super::indices::count_positions;
 use form::{ArgSettings, ArgView, FormSource};
 use rules::Rule;
 use sinks::{Sink, argument_at, of_one, offer_if};
+use std::ops::ControlFlow;
 
 /// Whether its index is the position.
 fn is_at(arg: &ArgView<'_>, position: usize) -> bool
     ensures { result ≡ rows.is_number position (seen arg.now).index }
 {
-    match arg.index {
-        Some(index) => usize::from(index) == position,
-        None => false,
-    }
+    arg.index
+        .is_some_and(|index| usize::from(index) == position)
 }
 
 /// The place of the first argument of the position.
 pub(crate) fn first_at<F: FormSource>(form: &F, position: usize) -> Option<usize>
     ensures { result ≡ rows.first_at position 0 (F.FormSource.form form.now).args }
 {
-    for place in 0..form.arg_count() {
-        if is_at(&form.arg(place), position) {
-            return Some(place);
-        }
-    }
-    None
+    (0..form.arg_count()).find(|place| is_at(&form.arg(*place), position))
 }
 
 /// Whether it settles its position: it is required, and not Last.
@@ -39,9 +34,9 @@ fn is_settled(arg: &ArgView<'_>) -> bool
 }
 
 /// Offers the optional arguments that stand below a settled position, from the highest position down to 1.
-pub(crate) fn survey_positions<F: FormSource, S: Sink>(form: &F, sink: &mut S) -> bool
+pub(crate) fn survey_positions<F: FormSource, S: Sink>(form: &F, sink: &mut S) -> ControlFlow<()>
     ensures took { S.Sink.after sink.old (section_report (F.FormSource.form form.now) rows.by_position) sink.new }
-    ensures goes { result ≡ not (S.Sink.full sink.new) }
+    ensures goes { result ≡ flow (S.Sink.full sink.new) }
 {
     let mut settled_above = false;
     for position in (1..=count_positions(form).count).rev() {
@@ -51,10 +46,8 @@ pub(crate) fn survey_positions<F: FormSource, S: Sink>(form: &F, sink: &mut S) -
         let arg = form.arg(place);
         let optional = !arg.settings.is_set(ArgSettings::Required);
         let breach = of_one(Rule::OptionalBeforeRequired, argument_at(place));
-        if !offer_if(optional && settled_above, breach, sink) {
-            return false;
-        }
+        offer_if(optional && settled_above, breach, sink)?;
         settled_above |= is_settled(&arg);
     }
-    !sink.is_full()
+    sink.go_on()
 }

@@ -1,27 +1,17 @@
-use Rattle.std.proofs.Common.{◌≡◌, get_or, sym, ap, ◌∙◌, arith}
+use Rattle.std.proofs.Common.{ap, ◌∙◌, rules, ◌≡◌, true, false, get_or, refl, arith}
 use Rattle.form.specs.Model.{blank_arg}
+use borrow.Author.Tests.{tests}
+use Rattle.std.proofs.lemmas.Iterator.{cases_from_any, YieldsList-from_range}
+use Rattle.rules.specs.Order.{some}
 use Rattle.survey.specs.Ends.{is_elsewhere}
-use Rattle.looks.specs.Records.{bare}
-use Rattle.survey.proofs.Searches.{some_yes, some_no, some_all}
+use Rattle.survey.proofs.Searches.{any_place}
 use Rattle.survey.proofs.ends.multiple_elsewhere.Goals as goal
-
-pub returns-then-is_elsewhere : goal.returns-then-is_elsewhere
-returns-then-is_elsewhere g c =
-    let args = (g.F.FormSource.form c.args.form.now).args in
-    let test = is_elsewhere c.count_positions-highest.result.highest in
-    let i = c.loop-place.place in
-    let is : c.is_elsewhere.result ≡ test (get_or args i blank_arg) = c.is_elsewhere.ensures ∙ ap (λ r. test (bare r)) c.arg.ensures in
-    sym (some_yes test args i blank_arg (omega arith) (sym is ∙ c.if-is_elsewhere.true)) ∙ c.loop-place.invariant
-
-pub loop-place-preserved : goal.loop-place-preserved
-loop-place-preserved g c =
-    let args = (g.F.FormSource.form c.args.form.now).args in
-    let test = is_elsewhere c.count_positions-highest.result.highest in
-    let i = c.loop-place.place in
-    let is : c.is_elsewhere.result ≡ test (get_or args i blank_arg) = c.is_elsewhere.ensures ∙ ap (λ r. test (bare r)) c.arg.ensures in
-    sym (some_no test args i blank_arg (omega arith) (sym is ∙ c.if-is_elsewhere.false)) ∙ c.loop-place.invariant
 
 pub returns : goal.returns
 returns g c =
     let args = (g.F.FormSource.form c.args.form.now).args in
-    sym (some_all (is_elsewhere c.count_positions-highest.result.highest) args c.loop-place.place (omega arith)) ∙ c.loop-place.invariant
+    let test = is_elsewhere c.count_positions-highest.result.highest in
+    any_place test args blank_arg c.arg_count.result c.any.result c.arg_count.ensures
+    (cases_from_any _ _ _ (λ j. test (get_or args j blank_arg) ≡ true) (λ j. test (get_or args j blank_arg) ≡ false) c.any.ensures.ran (YieldsList-from_range 0 c.arg_count.result c.arg_count.result refl (omega arith))
+    (λ x q k. search (rules, tests)) (λ x q k. search (rules, tests)))
+    ∙ ap (λ h. some (is_elsewhere h) args) c.count_positions-highest.ensures.highest

@@ -9,7 +9,7 @@ returns-then-number-alias_count g c =
     let o = owner_in (k.form c.args.kind.now) c.args.owner in
     let n = c.args.number in
     record {
-      alike = λ x. same_mapped g.K.Flag.Same.same k.same k.plain c.alias.ensures.alike x (Some c.alias.result);
+      alike = λ x. same_mapped g.K.Flag.PartialEq.eq k.same k.plain c.alias.ensures.alike x (Some c.alias.result);
       value = ap (λ y. Some y) c.alias.ensures.value ∙ flag_alias (k.own o) (k.aliases o) n (n - 1) k.blank (omega arith) (omega arith);
     }
 
@@ -19,6 +19,6 @@ returns-else-number-alias_count g c =
     let o = owner_in (k.form c.args.kind.now) c.args.owner in
     let n = c.args.number in
     record {
-      alike = same_absent g.K.Flag.Same.same k.same k.plain;
+      alike = same_absent g.K.Flag.PartialEq.eq k.same k.plain;
       value = flag_past (k.own o) (k.aliases o) n (n - 1) (omega arith) (omega arith);
     }

@@ -1,53 +1,40 @@
-use Rattle.std.proofs.Common.{not, sym, ap}
+use Rattle.std.proofs.Common.{rules}
 use Rattle.rules.specs.Order.{blocks}
-use Rattle.sinks.proofs.Walks.{stopped}
+use Rattle.rules.specs.Rows.{arg_ids, ids}
+use Rattle.sinks.proofs.Walks.{then_more, then_stop}
 use Rattle.survey.proofs.groups.offer_group_rules.Goals as goal
 
-pub returns-then-not-offer_same_groups : goal.returns-then-not-offer_same_groups
+pub returns-in_err-offer_same_groups-clause-took : goal.returns-in_err-offer_same_groups-clause-took
 unfolding blocks
-returns-then-not-offer_same_groups g c =
+returns-in_err-offer_same_groups-clause-took g c =
     let k = g.S.Sink in
-    let full = stopped _ _ c.offer_same_groups.ensures.goes c.if-not-offer_same_groups.true in
-    record {
-      took = (k.more _ _ _ _ _ c.offer_same_groups.ensures.took (k.stays _ _ full));
-      goes = sym (ap not full);
-    }
+    let f = g.F.FormSource.form c.args.form.now in
+    then_stop k _ _ c.offer_same_groups.ensures.took c.in_err-offer_same_groups.ensures.goes
 
-pub returns-then-not-offer_named_arguments : goal.returns-then-not-offer_named_arguments
+pub returns-in_err-offer_named_arguments-clause-took : goal.returns-in_err-offer_named_arguments-clause-took
 unfolding blocks
-returns-then-not-offer_named_arguments g c =
+returns-in_err-offer_named_arguments-clause-took g c =
     let k = g.S.Sink in
-    let full = stopped _ _ c.offer_named_arguments.ensures.goes c.if-not-offer_named_arguments.true in
-    record {
-      took = (k.more _ _ _ _ _ c.offer_same_groups.ensures.took (k.more _ _ _ _ _ c.offer_named_arguments.ensures.took (k.stays _ _ full)));
-      goes = sym (ap not full);
-    }
+    let f = g.F.FormSource.form c.args.form.now in
+    then_more k _ _ c.offer_same_groups.ensures.took (then_stop k _ _ c.offer_named_arguments.ensures.took c.in_err-offer_named_arguments.ensures.goes)
 
-pub returns-then-not-offer_missing : goal.returns-then-not-offer_missing
+pub returns-in_err-offer_missing-clause-took : goal.returns-in_err-offer_missing-clause-took
 unfolding blocks
-returns-then-not-offer_missing g c =
+returns-in_err-offer_missing-clause-took g c =
     let k = g.S.Sink in
-    let full = stopped _ _ c.offer_missing.ensures.goes c.if-not-offer_missing.true in
-    record {
-      took = (k.more _ _ _ _ _ c.offer_same_groups.ensures.took (k.more _ _ _ _ _ c.offer_named_arguments.ensures.took (k.more _ _ _ _ _ c.offer_missing.ensures.took (k.stays _ _ full))));
-      goes = sym (ap not full);
-    }
+    let f = g.F.FormSource.form c.args.form.now in
+    then_more k _ _ c.offer_same_groups.ensures.took (then_more k _ _ c.offer_named_arguments.ensures.took (then_stop k _ _ (c.offer_missing.ensures.took (arg_ids f) (λ x b q. search rules)) c.in_err-offer_missing.ensures.goes))
 
-pub returns-then-not-offer_missing-2 : goal.returns-then-not-offer_missing-2
+pub returns-in_err-offer_missing-2-clause-took : goal.returns-in_err-offer_missing-2-clause-took
 unfolding blocks
-returns-then-not-offer_missing-2 g c =
+returns-in_err-offer_missing-2-clause-took g c =
     let k = g.S.Sink in
-    let full = stopped _ _ c.offer_missing-2.ensures.goes c.if-not-offer_missing-2.true in
-    record {
-      took = (k.more _ _ _ _ _ c.offer_same_groups.ensures.took (k.more _ _ _ _ _ c.offer_named_arguments.ensures.took (k.more _ _ _ _ _ c.offer_missing.ensures.took (k.more _ _ _ _ _ c.offer_missing-2.ensures.took (k.stays _ _ full)))));
-      goes = sym (ap not full);
-    }
+    let f = g.F.FormSource.form c.args.form.now in
+    then_more k _ _ c.offer_same_groups.ensures.took (then_more k _ _ c.offer_named_arguments.ensures.took (then_more k _ _ (c.offer_missing.ensures.took (arg_ids f) (λ x b q. search rules)) (then_stop k _ _ (c.offer_missing-2.ensures.took (ids f) (λ x b q. search rules)) c.in_err-offer_missing-2.ensures.goes)))
 
-pub returns : goal.returns
+pub returns-clause-took : goal.returns-clause-took
 unfolding blocks
-returns g c =
+returns-clause-took g c =
     let k = g.S.Sink in
-    record {
-      took = (k.more _ _ _ _ _ c.offer_same_groups.ensures.took (k.more _ _ _ _ _ c.offer_named_arguments.ensures.took (k.more _ _ _ _ _ c.offer_missing.ensures.took (k.more _ _ _ _ _ c.offer_missing-2.ensures.took (k.more _ _ _ _ _ c.offer_missing-3.ensures.took (k.none _))))));
-      goes = c.offer_missing-3.ensures.goes;
-    }
+    let f = g.F.FormSource.form c.args.form.now in
+    then_more k _ _ c.offer_same_groups.ensures.took (then_more k _ _ c.offer_named_arguments.ensures.took (then_more k _ _ (c.offer_missing.ensures.took (arg_ids f) (λ x b q. search rules)) (then_more k _ _ (c.offer_missing-2.ensures.took (ids f) (λ x b q. search rules)) (then_more k _ _ (c.offer_missing-3.ensures.took (ids f) (λ x b q. search rules)) (k.none _)))))

@@ -9,11 +9,8 @@ use Rattle.survey.proofs.groups.offer_same_groups.Goals as goal
 pub overflow_add-place : goal.overflow_add-place
 overflow_add-place g c = omega (arith, (g.F.FormSource.fits c.args.form.now).groups)
 
-pub returns : goal.returns
-returns g c =
+pub returns-clause-took : goal.returns-clause-took
+returns-clause-took g c =
     let f = g.F.FormSource.form c.args.form.now in
-    record {
-      took = later_group_by g.S.Sink.after _ _ f c.args.place _ _ SameGroupId same_group_id _ c.group_at.ensures c.group_count.ensures
-          (λ j. ap (λ x. bytes_eq x (group_of f j).id) c.group.ensures) c.offer_same.ensures.took;
-      goes = c.offer_same.ensures.goes;
-    }
+    later_group_by g.S.Sink.after _ _ f c.args.place _ _ SameGroupId same_group_id _ c.group_at.ensures c.group_count.ensures
+    (λ j. ap (λ x. bytes_eq x (group_of f j).id) c.group.ensures) c.offer_same.ensures.took

@@ -1,22 +1,16 @@
-use Rattle.std.proofs.Common.{sym, ap, ◌∙◌, arith}
+use Rattle.std.proofs.Common.{rules, ◌≡◌, true, false, get_or, refl, arith, ◌∙◌, sym}
 use Rattle.std.specs.Str.{bytes_eq}
 use Rattle.form.specs.Model.{Arg, blank_arg}
-use Rattle.survey.proofs.Members.{some_here, some_not_here, some_past}
+use borrow.Author.Tests.{tests}
+use Rattle.std.proofs.lemmas.Iterator.{cases_from_any, YieldsList-from_range}
+use Rattle.survey.proofs.Searches.{any_place, some_map}
 use Rattle.survey.proofs.known.names_argument.Goals as goal
 
-pub loop-place-preserved : goal.loop-place-preserved
-loop-place-preserved g c =
-    let name = c.args.name.now in
-    let id = ap (λ r. r.id) c.arg.ensures in
-    c.loop-place.invariant ∙ some_not_here (bytes_eq name) (λ (x : Arg). x.id) (g.F.FormSource.form c.args.form.now).args blank_arg c.loop-place.place (omega arith)
-    (ap (bytes_eq name) (sym id) ∙ sym c.is_same.ensures ∙ c.if-is_same.false)
-
-pub returns-then-is_same : goal.returns-then-is_same
-returns-then-is_same g c =
-    let name = c.args.name.now in
-    let id = ap (λ r. r.id) c.arg.ensures in
-    sym (c.loop-place.invariant ∙ some_here (bytes_eq name) (λ (x : Arg). x.id) (g.F.FormSource.form c.args.form.now).args blank_arg c.loop-place.place (omega arith)
-    (ap (bytes_eq name) (sym id) ∙ sym c.is_same.ensures ∙ c.if-is_same.true))
-
 pub returns : goal.returns
-returns g c = sym (c.loop-place.invariant ∙ some_past (bytes_eq c.args.name.now) (λ (x : Arg). x.id) (g.F.FormSource.form c.args.form.now).args c.loop-place.place (omega arith))
+returns g c =
+    let args = (g.F.FormSource.form c.args.form.now).args in
+    let test = λ (x : Arg). bytes_eq c.args.name.now x.id in
+    any_place test args blank_arg c.arg_count.result c.any.result c.arg_count.ensures
+    (cases_from_any _ _ _ (λ j. test (get_or args j blank_arg) ≡ true) (λ j. test (get_or args j blank_arg) ≡ false) c.any.ensures.ran (YieldsList-from_range 0 c.arg_count.result c.arg_count.result refl (omega arith))
+    (λ x q k. search (rules, tests)) (λ x q k. search (rules, tests)))
+    ∙ sym (some_map (bytes_eq c.args.name.now) (λ (x : Arg). x.id) args)

@@ -3,7 +3,7 @@ use Rattle.std.specs.Str.{bytes_eq}
 use Rattle.form.specs.Model.{Group}
 use Rattle.rules.specs.Order.{some}
 use Rattle.rules.specs.Rows.{arg_ids}
-use Rattle.survey.proofs.Members.{some_append}
+use Rattle.survey.proofs.Searches.{some_append}
 use Rattle.survey.proofs.known.names_entry.Goals as goal
 
 pub returns-then-names_argument : goal.returns-then-names_argument

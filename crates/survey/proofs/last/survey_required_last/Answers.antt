@@ -6,10 +6,8 @@ use Rattle.rules.specs.declared.rule.Rule.TheVariants.{RequiredLastWithSubcomman
 use Rattle.survey.proofs.Tables.{each_by}
 use Rattle.survey.proofs.last.survey_required_last.Goals as goal
 
-pub returns : goal.returns
-returns g c = record {
-  took = each_by g.S.Sink.after _ _ (g.F.FormSource.form c.args.form.now) (λ a. ((positional_last a && arg_set a.settings Required) && c.is_commanded.result, RequiredLastWithSubcommands) ∷ []) (whole RequiredLastWithSubcommands required_last ∷ [])
-      (λ a. ((ap (λ b. (positional_last a && arg_set a.settings Required) && b) c.is_commanded.ensures, refl), tt))
-      c.survey_each.ensures.took;
-  goes = c.survey_each.ensures.goes;
-}
+pub returns-clause-took : goal.returns-clause-took
+returns-clause-took g c =
+    each_by g.S.Sink.after _ _ (g.F.FormSource.form c.args.form.now) (λ a. ((positional_last a && arg_set a.settings Required) && c.is_commanded.result, RequiredLastWithSubcommands) ∷ []) (whole RequiredLastWithSubcommands required_last ∷ [])
+    (λ a. ((ap (λ b. (positional_last a && arg_set a.settings Required) && b) c.is_commanded.ensures, refl), tt))
+    c.survey_each.ensures.took

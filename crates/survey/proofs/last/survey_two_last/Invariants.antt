@@ -9,4 +9,4 @@ use Rattle.survey.proofs.last.survey_two_last.Given as goal
 abbrev pub invariant-loop-place : goal.invariant-loop-place
 invariant-loop-place g l =
     let f = g.F.FormSource.form l.form in
-    Walked g.S.Sink.after (λ p a. blocks (λ _ r. arg_report f p a r) 0 (later TwoLast two_last ∷ [])) 0 f.args l.initial.sink l.place l.sink
+    Walked g.S.Sink (λ p a. blocks (λ _ r. arg_report f p a r) 0 (later TwoLast two_last ∷ [])) 0 f.args l.initial.sink l.place l.sink

@@ -7,4 +7,4 @@ use Rattle.survey.proofs.names.offer_name.Given as goal
 abbrev pub invariant-loop-place : goal.invariant-loop-place
 invariant-loop-place g l =
     let f = g.F.FormSource.form l.form in
-    Walked g.S.Sink.after (λ q t. taken_report l.later l.item (name_of f l.later l.item) q t) 0 (take (suc l.later) f.subcommands) l.initial.sink l.place l.sink
+    Walked g.S.Sink (λ q t. taken_report l.later l.item (name_of f l.later l.item) q t) 0 (take (suc l.later) f.subcommands) l.initial.sink l.place l.sink

@@ -1,26 +1,14 @@
-use Rattle.std.proofs.Common.{◌≡◌, ◌<◌, length, get_or, sym, ap, ◌∙◌, arith}
+use Rattle.std.proofs.Common.{rules, ◌≡◌, true, false, get_or}
+use borrow.Author.Tests.{tests}
+use Rattle.std.proofs.lemmas.Iterator.{first_from_Range}
 use Rattle.form.specs.Model.{blank_arg}
 use Rattle.rules.specs.Rows.{is_number}
-use Rattle.survey.proofs.Searches.{first_at_yes, first_at_no, first_at_all}
+use Rattle.survey.proofs.Searches.{first_place}
 use Rattle.survey.proofs.positions.first_at.Goals as goal
-
-pub returns-then-is_at : goal.returns-then-is_at
-returns-then-is_at g c =
-    let args = (g.F.FormSource.form c.args.form.now).args in
-    let i = c.loop-place.place in
-    let lt : i < length args = omega arith in
-    let is : c.is_at.result ≡ is_number c.args.position (get_or args i blank_arg).index = c.is_at.ensures ∙ ap (λ r. is_number c.args.position r.index) c.arg.ensures in
-    sym (first_at_yes c.args.position args i lt (sym is ∙ c.if-is_at.true)) ∙ c.loop-place.invariant
-
-pub loop-place-preserved : goal.loop-place-preserved
-loop-place-preserved g c =
-    let args = (g.F.FormSource.form c.args.form.now).args in
-    let i = c.loop-place.place in
-    let lt : i < length args = omega arith in
-    let is : c.is_at.result ≡ is_number c.args.position (get_or args i blank_arg).index = c.is_at.ensures ∙ ap (λ r. is_number c.args.position r.index) c.arg.ensures in
-    sym (first_at_no c.args.position args i lt (sym is ∙ c.if-is_at.false)) ∙ c.loop-place.invariant
 
 pub returns : goal.returns
 returns g c =
     let args = (g.F.FormSource.form c.args.form.now).args in
-    sym (first_at_all c.args.position args c.loop-place.place (omega arith)) ∙ c.loop-place.invariant
+    first_place c.args.position c.arg_count.result args c.find.result c.arg_count.ensures
+    (first_from_Range _ _ _ c.find.result (λ j. is_number c.args.position (get_or args j blank_arg).index ≡ true) (λ j. is_number c.args.position (get_or args j blank_arg).index ≡ false) c.find.ensures.ran
+    (λ x q k. search (rules, tests)) (λ x q k. search (rules, tests)))

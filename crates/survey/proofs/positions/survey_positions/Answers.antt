@@ -1,4 +1,4 @@
-use Rattle.std.proofs.Common.{◌≡◌, suc, ◌-◌, not, ◌&&◌, sym, ap, ◌∙◌, arith}
+use Rattle.std.proofs.Common.{◌≡◌, suc, ◌-◌, not, ◌&&◌, ap, ◌∙◌, arith}
 use Rattle.form.specs.Settings.{arg_set}
 use Rattle.form.specs.declared.arg_settings.ArgSettings.TheVariants.{Required}
 use Rattle.rules.specs.Rows.{arg_of}
@@ -6,7 +6,6 @@ use Rattle.rules.specs.Told.{of_one}
 use Rattle.rules.specs.declared.rule.Rule.TheVariants.{OptionalBeforeRequired}
 use Rattle.looks.specs.Records.{bare}
 use Rattle.survey.specs.Settled.{settles}
-use Rattle.sinks.proofs.Walks.{stopped}
 use Rattle.survey.proofs.Descents.{told_at, descent_start, descent_step, descent_end, descent_stop, told_some, told_absent, settled_some, settled_absent}
 use Rattle.survey.proofs.positions.survey_positions.Goals as goal
 use Rattle.survey.proofs.positions.survey_positions.Goals.{then-optional, else-optional}
@@ -26,8 +25,8 @@ loop-position-preserved-in_default g c =
     let here : k.after c.loop-position.sink (told_at f n) c.loop-position.sink = rw (told_absent f n at) (k.none _) in
     descent_step k.after k.more f _ _ _ n (n - 1) found found e c.loop-position.invariant here (settled_absent f n found at)
 
-pub returns-then-not-offer_if : goal.returns-then-not-offer_if
-returns-then-not-offer_if g c =
+pub returns-in_err-offer_if-clause-took : goal.returns-in_err-offer_if-clause-took
+returns-in_err-offer_if-clause-took g c =
     let k = g.S.Sink in
     let f = g.F.FormSource.form c.args.form.now in
     let n = c.loop-position.position in
@@ -39,12 +38,8 @@ returns-then-not-offer_if g c =
       | then-optional w ↦ rw (← required, w.if-optional.true) w.offer_if-is
       | else-optional w ↦ rw (← required, w.if-optional.false) (w.offer_if-is ∙ ap not w.if-optional.false)
     ] in
-    let full = stopped _ _ c.offer_if.ensures.goes c.if-not-offer_if.true in
     let told = told_some f n p _ found _ c.in-Some.ensures c.loop-position.invariant.above test (c.of_one-breach.ensures ∙ ap (of_one OptionalBeforeRequired) c.argument_at.ensures) in
-    record {
-      took = descent_stop k.after k.more f _ _ c.offer_if.new.sink n (n - 1) found e (λ ys. k.stays _ ys full) c.loop-position.invariant (rw told c.offer_if.ensures.took);
-      goes = sym (ap not full);
-    }
+    descent_stop k f _ _ c.offer_if.new.sink n (n - 1) found e c.loop-position.invariant (rw told c.offer_if.ensures.took) c.in_err-offer_if.ensures.goes
 
 pub loop-position-preserved : goal.loop-position-preserved
 loop-position-preserved g c =
@@ -63,10 +58,5 @@ loop-position-preserved g c =
     let settled = settled_some f n p found c.is_settled.result c.in-Some.ensures (c.is_settled.ensures ∙ ap (λ r. settles (bare r)) c.arg-arg.ensures) in
     descent_step k.after k.more f _ _ c.offer_if.new.sink n (n - 1) found _ e c.loop-position.invariant (rw told c.offer_if.ensures.took) settled
 
-pub returns : goal.returns
-returns g c =
-    let k = g.S.Sink in
-    record {
-      took = descent_end k.after k.none (g.F.FormSource.form c.args.form.now) _ _ c.loop-position.position _ (omega arith) c.loop-position.invariant;
-      goes = ap not c.is_full.ensures;
-    }
+pub returns-clause-took : goal.returns-clause-took
+returns-clause-took g c = descent_end g.S.Sink.after g.S.Sink.none (g.F.FormSource.form c.args.form.now) _ _ c.loop-position.position _ (omega arith) c.loop-position.invariant

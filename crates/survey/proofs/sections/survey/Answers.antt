@@ -1,31 +1,52 @@
-use Rattle.std.proofs.Common.{not, sym, ap, arith}
-use Rattle.survey.specs.Sections.{part_report, parts}
-use Rattle.survey.specs.declared.sections.Part.TheVariants as part
+use Rattle.std.proofs.Common.{rules}
 use Rattle.survey.proofs.PartsTold.{parts_told}
-use Rattle.sinks.proofs.Walks.{walk_step, walk_end, walk_stop, stopped}
+use Rattle.sinks.proofs.Walks.{then_more, then_stop}
 use Rattle.survey.proofs.sections.survey.Goals as goal
 
-pub loop-part-preserved : goal.loop-part-preserved
-loop-part-preserved g c =
-    let k = g.S.Sink in
-    let f = g.F.FormSource.form c.args.form.now in
-    walk_step k.after k.more (λ _ p. part_report f p) 0 parts part.Propagation _ _ _ c.loop-part.part-index (omega arith) c.loop-part.invariant c.survey_part.ensures.took
+pub returns-in_err-survey_propagation-clause-took : goal.returns-in_err-survey_propagation-clause-took
+returns-in_err-survey_propagation-clause-took g c = rw (parts_told (g.F.FormSource.form c.args.form.now)) (search (rules, then_more g.S.Sink, then_stop g.S.Sink) depth 40 fits 4000)
 
-pub returns-then-not-survey_part : goal.returns-then-not-survey_part
-returns-then-not-survey_part g c =
-    let k = g.S.Sink in
-    let f = g.F.FormSource.form c.args.form.now in
-    let full = stopped _ _ c.survey_part.ensures.goes c.if-not-survey_part.true in
-    record {
-      took = rw (← parts_told f) (walk_stop k.after k.more (λ _ p. part_report f p) 0 parts part.Propagation _ _ _ c.loop-part.part-index (λ ys. k.stays _ ys full) (omega arith) c.loop-part.invariant c.survey_part.ensures.took);
-      goes = sym (ap not full);
-    }
+pub returns-in_err-survey_versions-clause-took : goal.returns-in_err-survey_versions-clause-took
+returns-in_err-survey_versions-clause-took g c = rw (parts_told (g.F.FormSource.form c.args.form.now)) (search (rules, then_more g.S.Sink, then_stop g.S.Sink) depth 40 fits 4000)
 
-pub returns : goal.returns
-returns g c =
-    let k = g.S.Sink in
-    let f = g.F.FormSource.form c.args.form.now in
-    record {
-      took = rw (← parts_told f) (walk_end k.after k.none (λ _ p. part_report f p) 0 parts _ _ c.loop-part.part-index (omega arith) c.loop-part.invariant);
-      goes = ap not c.is_full.ensures;
-    }
+pub returns-in_err-survey_dashed_flags-clause-took : goal.returns-in_err-survey_dashed_flags-clause-took
+returns-in_err-survey_dashed_flags-clause-took g c = rw (parts_told (g.F.FormSource.form c.args.form.now)) (search (rules, then_more g.S.Sink, then_stop g.S.Sink) depth 40 fits 4000)
+
+pub returns-in_err-survey_arguments-clause-took : goal.returns-in_err-survey_arguments-clause-took
+returns-in_err-survey_arguments-clause-took g c = rw (parts_told (g.F.FormSource.form c.args.form.now)) (search (rules, then_more g.S.Sink, then_stop g.S.Sink) depth 40 fits 4000)
+
+pub returns-in_err-survey_groups-clause-took : goal.returns-in_err-survey_groups-clause-took
+returns-in_err-survey_groups-clause-took g c = rw (parts_told (g.F.FormSource.form c.args.form.now)) (search (rules, then_more g.S.Sink, then_stop g.S.Sink) depth 40 fits 4000)
+
+pub returns-in_err-survey_long_flags-clause-took : goal.returns-in_err-survey_long_flags-clause-took
+returns-in_err-survey_long_flags-clause-took g c = rw (parts_told (g.F.FormSource.form c.args.form.now)) (search (rules, then_more g.S.Sink, then_stop g.S.Sink) depth 40 fits 4000)
+
+pub returns-in_err-survey_letter_flags-clause-took : goal.returns-in_err-survey_letter_flags-clause-took
+returns-in_err-survey_letter_flags-clause-took g c = rw (parts_told (g.F.FormSource.form c.args.form.now)) (search (rules, then_more g.S.Sink, then_stop g.S.Sink) depth 40 fits 4000)
+
+pub returns-in_err-survey_subcommand_names-clause-took : goal.returns-in_err-survey_subcommand_names-clause-took
+returns-in_err-survey_subcommand_names-clause-took g c = rw (parts_told (g.F.FormSource.form c.args.form.now)) (search (rules, then_more g.S.Sink, then_stop g.S.Sink) depth 40 fits 4000)
+
+pub returns-in_err-survey_gaps-clause-took : goal.returns-in_err-survey_gaps-clause-took
+returns-in_err-survey_gaps-clause-took g c = rw (parts_told (g.F.FormSource.form c.args.form.now)) (search (rules, then_more g.S.Sink, then_stop g.S.Sink) depth 40 fits 4000)
+
+pub returns-in_err-survey_trailing-clause-took : goal.returns-in_err-survey_trailing-clause-took
+returns-in_err-survey_trailing-clause-took g c = rw (parts_told (g.F.FormSource.form c.args.form.now)) (search (rules, then_more g.S.Sink, then_stop g.S.Sink) depth 40 fits 4000)
+
+pub returns-in_err-survey_ends-clause-took : goal.returns-in_err-survey_ends-clause-took
+returns-in_err-survey_ends-clause-took g c = rw (parts_told (g.F.FormSource.form c.args.form.now)) (search (rules, then_more g.S.Sink, then_stop g.S.Sink) depth 40 fits 4000)
+
+pub returns-in_err-survey_positions-clause-took : goal.returns-in_err-survey_positions-clause-took
+returns-in_err-survey_positions-clause-took g c = rw (parts_told (g.F.FormSource.form c.args.form.now)) (search (rules, then_more g.S.Sink, then_stop g.S.Sink) depth 40 fits 4000)
+
+pub returns-in_err-survey_two_last-clause-took : goal.returns-in_err-survey_two_last-clause-took
+returns-in_err-survey_two_last-clause-took g c = rw (parts_told (g.F.FormSource.form c.args.form.now)) (search (rules, then_more g.S.Sink, then_stop g.S.Sink) depth 40 fits 4000)
+
+pub returns-in_err-survey_required_last-clause-took : goal.returns-in_err-survey_required_last-clause-took
+returns-in_err-survey_required_last-clause-took g c = rw (parts_told (g.F.FormSource.form c.args.form.now)) (search (rules, then_more g.S.Sink, then_stop g.S.Sink) depth 40 fits 4000)
+
+pub returns-in_err-survey_multicall-clause-took : goal.returns-in_err-survey_multicall-clause-took
+returns-in_err-survey_multicall-clause-took g c = rw (parts_told (g.F.FormSource.form c.args.form.now)) (search (rules, then_more g.S.Sink, then_stop g.S.Sink) depth 40 fits 4000)
+
+pub returns-clause-took : goal.returns-clause-took
+returns-clause-took g c = rw (parts_told (g.F.FormSource.form c.args.form.now)) (search (rules, then_more g.S.Sink, then_stop g.S.Sink) depth 40 fits 4000)

@@ -7,4 +7,4 @@ use Rattle.survey.proofs.subcommands.survey_dashed_flags.Given as goal
 
 abbrev pub invariant-loop-place : goal.invariant-loop-place
 invariant-loop-place g l =
-    Walked g.S.Sink.after (λ p s. when (dashed s.long) (of_one LongFlagDash (subcommand p))) 0 (g.F.FormSource.form l.form).subcommands l.initial.sink l.place l.sink
+    Walked g.S.Sink (λ p s. when (dashed s.long) (of_one LongFlagDash (subcommand p))) 0 (g.F.FormSource.form l.form).subcommands l.initial.sink l.place l.sink

@@ -1,37 +1,22 @@
-use Rattle.std.proofs.Common.{map, vec_items, sym, ap, ◌∙◌, arith}
-use Rattle.std.proofs.lemmas.Result.{err_from_is_err_and}
+use Rattle.std.proofs.Common.{map, vec_items, ap, ◌∙◌}
+use Rattle.form.specs.declared.lists.EntryKind.TheVariants.{Subcommand}
 use Rattle.calls.specs.Marked.{MarkedForm}
 use Rattle.calls.specs.Calls.{subcommand, replaced}
 use Rattle.calls.specs.Given.{subcommand_given}
-use Rattle.book_tables.specs.Held.{held, subcommand_held, marks}
-use Rattle.book_tables.specs.Marks.{climbing}
+use Rattle.book_tables.specs.Held.{held, subcommand_held}
 use Rattle.book_tables.specs.Tables.{tables_marked}
 use Rattle.book_tables.proofs.Marks.{marks_replaced}
-use Rattle.book_tables.proofs.Alters.{table_replaced, alter_refused, alter_taken}
+use Rattle.book_tables.proofs.Alters.{table_replaced, mark_there, alter_taken}
 use Rattle.book_tables.proofs.tables.Tables.alter_subcommand.Goals as goal
-
-pub returns-in_err-of : goal.returns-in_err-of
-returns-in_err-of c =
-    let p = err_from_is_err_and c.from_residual.result c.from_residual.ensures.1 in
-    let l = alter_refused (tables_marked c.args.self.now) c.args.mark (subcommand (subcommand_given c.args.details)) (subcommand_given c.args.details) _ (sym c.if-not-is_marked_as.ensures) c.in_err-of.ensures in
-    rw (p.1, p.2) (record { answer = l.0; after = l.1 })
 
 pub invariant_of-self : goal.invariant_of-self
 invariant_of-self c =
     let s = c.args.self.now in
     record {
-      few_args = omega arith;
-      few_groups = omega arith;
-      few_subcommands = omega arith;
-      few_rows = omega arith;
-      args_room = omega arith;
-      groups_room = omega arith;
-      subcommands_room = omega arith;
-      rows_room = omega arith;
-      last = omega arith;
+      last = s.last;
       args_order = s.args_order;
       groups_order = s.groups_order;
-      subcommands_order = ap (λ es. climbing 1 (marks es) s.next) c.replace.ensures.items ∙ ap (λ ms. climbing 1 ms s.next) (marks_replaced _ _ (vec_items s.subcommands)) ∙ s.subcommands_order;
+      subcommands_order = rw (c.replace.ensures, marks_replaced c.args.mark c.in_ok-of.of (vec_items s.subcommands.list)) s.subcommands_order;
     }
 
 pub returns : goal.returns
@@ -39,7 +24,7 @@ unfolding tables_marked
 returns c =
     let s = c.args.self.now in
     let m = tables_marked s in
-    let es = ap (map (held subcommand_held)) c.replace.ensures.items ∙ table_replaced subcommand_held c.args.mark c.in_ok-of.of (vec_items s.subcommands) in
-    let l = alter_taken m _ c.args.mark (subcommand (subcommand_given c.args.details)) (subcommand_given c.args.details) _ (sym c.if-not-is_marked_as.ensures) c.in_ok-of.ensures
+    let es = ap (map (held subcommand_held)) c.replace.ensures ∙ table_replaced subcommand_held c.args.mark c.in_ok-of.of (vec_items s.subcommands.list) in
+    let l = alter_taken m _ c.args.mark (subcommand (subcommand_given c.args.details)) (subcommand_given c.args.details) _ (mark_there m c.args.mark Subcommand c.in_ok-seek.ensures) c.in_ok-of.ensures
     (λ is. ap {B = MarkedForm} (λ es. record { settings = m.settings; args = m.args; groups = m.groups; subcommands = es; rows = m.rows; next = m.next }) (es ∙ ap (λ x. replaced c.args.mark x m.subcommands) is)) in
     record { answer = l.0; after = l.1 }

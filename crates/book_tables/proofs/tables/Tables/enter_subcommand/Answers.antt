@@ -1,24 +1,39 @@
-use Rattle.std.proofs.Common.{leb, length, sym, ap, ◌∙◌}
+use Rattle.std.proofs.Common.{leb, map, vec_items, sym, ap, ◌∙◌}
+use Rattle.std.proofs.lemmas.List.{length-map}
 use Rattle.std.proofs.lemmas.Result.{err_from_is_err_and}
-use Rattle.calls.specs.Calls.{subcommand}
+use Rattle.calls.specs.Calls.{subcommand, full}
 use Rattle.calls.specs.Given.{subcommand_given}
+use Rattle.book_tables.specs.Held.{held, subcommand_held}
 use Rattle.book_tables.specs.Tables.{tables_marked}
-use Rattle.book_tables.specs.Steps.{mark_answer, with_subcommand}
-use Rattle.book_tables.proofs.Gates.{stopped_at, passed_by, entered_refused, entered_taken}
+use Rattle.book_tables.specs.Steps.{mark_answer}
+use Rattle.book_tables.proofs.Gates.{stopped_at, entered_refused, enter_answered}
+use Rattle.book_tables.proofs.Steps.{next_few, climbing_on, climbing_entered, table_entered, subcommand_entered}
 use Rattle.book_tables.proofs.tables.Tables.enter_subcommand.Goals as goal
 
-pub returns-in_err-take : goal.returns-in_err-take
-returns-in_err-take c =
+pub returns-in_err-of : goal.returns-in_err-of
+returns-in_err-of c =
     let m = tables_marked c.args.self.now in
     let r = subcommand (subcommand_given c.args.details) in
     let p = err_from_is_err_and c.from_residual.result c.from_residual.ensures.1 in
-    let e = stopped_at r (subcommand_given c.args.details) (mark_answer (leb 32 (length m.subcommands)) m.next) _ c.in_err-take.ensures in
+    let e = stopped_at r (subcommand_given c.args.details) (mark_answer (full m r) m.next) _ c.in_err-of.ensures in
     rw (p.1, p.2) (record { answer = e; after = entered_refused m r _ e })
 
+pub invariant_of-self : goal.invariant_of-self
+invariant_of-self c =
+    let s = c.args.self.now in
+    record {
+      last = rw c.enter.ensures.next (next_few _ s.next c.enter.result c.enter.ensures.answer s.last);
+      args_order = rw c.enter.ensures.next (climbing_on c.enter.result _ s.next s.args_order);
+      groups_order = rw c.enter.ensures.next (climbing_on c.enter.result _ s.next s.groups_order);
+      subcommands_order = rw (c.enter.ensures.items, c.enter.ensures.next) (climbing_entered c.enter.result s.next c.in_ok-of.of (vec_items s.subcommands.list) s.subcommands_order);
+    }
+
 pub returns : goal.returns
+unfolding tables_marked
 returns c =
-    let m = tables_marked c.args.self.now in
-    let r = subcommand (subcommand_given c.args.details) in
-    let p = passed_by r (subcommand_given c.args.details) _ (mark_answer (leb 32 (length m.subcommands)) m.next) c.in_ok-take.ensures in
-    let answer = c.add_subcommand.ensures.answer ∙ sym p.1 in
-    record { answer = answer; after = entered_taken m _ _ r _ answer (ap (with_subcommand m) p.0) c.add_subcommand.ensures.after }
+    let s = c.args.self.now in
+    let m = tables_marked s in
+    let long = ap (λ n. mark_answer (leb 32 n) s.next) (sym (length-map (vec_items s.subcommands.list) (held subcommand_held))) in
+    let p = enter_answered m (subcommand (subcommand_given c.args.details)) (subcommand_given c.args.details) (subcommand_held c.in_ok-of.of) c.enter.result c.in_ok-of.ensures (c.enter.ensures.answer ∙ long) in
+    let es = ap (map (held subcommand_held)) c.enter.ensures.items ∙ table_entered subcommand_held c.enter.result s.next c.in_ok-of.of (vec_items s.subcommands.list) in
+    record { answer = p.1; after = subcommand_entered m _ _ c.enter.result (subcommand_given c.args.details) _ p es c.enter.ensures.next }

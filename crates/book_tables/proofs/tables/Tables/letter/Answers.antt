@@ -1,13 +1,16 @@
-use Rattle.std.proofs.Common.{map, get_or, sym, ap, ◌∙◌}
-use Rattle.calls.specs.Marked.{letters_in}
-use Rattle.book_tables.specs.Held.{row_held}
+use Rattle.std.proofs.Common.{get_or, sym, ap, ◌∙◌}
+use Rattle.form.specs.declared.lists.ItemSort.TheVariants as sort
+use Rattle.book_tables.specs.Rows.{lettered, items_at}
 use Rattle.book_tables.specs.Tables.{tables_marked}
+use Rattle.book_tables.proofs.Places.{found_at, none_found, letters_listed}
 use Rattle.book_tables.proofs.tables.Tables.letter.Goals as goal
 
 pub returns-in-Some : goal.returns-in-Some
-unfolding tables_marked
 returns-in-Some c =
-    c.nth_letter.ensures ∙ ap (λ xs. get_or xs c.args.item 0) (ap (λ rs. letters_in c.in-Some.mark c.args.list (map row_held rs)) c.as_slice.ensures.value ∙ sym c.in-Some.ensures)
+    let m = tables_marked c.args.self.now in
+    c.letter.ensures ∙ found_at lettered 0 (items_at m sort.Letter c.args.list c.args.place) c.args.item _ c.in-Some.ensures ∙ ap (λ xs. get_or xs c.args.item 0) (sym (letters_listed m c.args.list c.args.place))
 
 pub returns-in-None : goal.returns-in-None
-returns-in-None c = ap (λ xs. get_or xs c.args.item 0) (sym c.in-None.ensures)
+returns-in-None c =
+    let m = tables_marked c.args.self.now in
+    none_found lettered 0 (items_at m sort.Letter c.args.list c.args.place) c.args.item c.in-None.ensures ∙ ap (λ xs. get_or xs c.args.item 0) (sym (letters_listed m c.args.list c.args.place))

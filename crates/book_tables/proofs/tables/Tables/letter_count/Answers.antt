@@ -1,13 +1,12 @@
-use Rattle.std.proofs.Common.{map, length, sym, ap, ◌∙◌}
-use Rattle.calls.specs.Marked.{letters_in}
-use Rattle.book_tables.specs.Held.{row_held}
+use Rattle.std.proofs.Common.{length, sym, ap, ◌∙◌}
+use Rattle.std.proofs.lemmas.List.{length-map}
+use Rattle.form.specs.declared.lists.ItemSort.TheVariants as sort
+use Rattle.book_tables.specs.Rows.{lettered, items_at}
 use Rattle.book_tables.specs.Tables.{tables_marked}
+use Rattle.book_tables.proofs.Places.{letters_listed}
 use Rattle.book_tables.proofs.tables.Tables.letter_count.Goals as goal
 
-pub returns-in-Some : goal.returns-in-Some
-unfolding tables_marked
-returns-in-Some c =
-    c.count_letters.ensures ∙ ap length (ap (λ rs. letters_in c.in-Some.mark c.args.list (map row_held rs)) c.as_slice.ensures.value ∙ sym c.in-Some.ensures)
-
-pub returns-in-None : goal.returns-in-None
-returns-in-None c = ap length (sym c.in-None.ensures)
+pub returns : goal.returns
+returns c =
+    let m = tables_marked c.args.self.now in
+    c.item_count.ensures ∙ sym (ap length (letters_listed m c.args.list c.args.place) ∙ length-map (items_at m sort.Letter c.args.list c.args.place) lettered)
