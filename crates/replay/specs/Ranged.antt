@@ -2,10 +2,8 @@
 use Rattle.std.specs.Prelude.{ℕ, cond, List, Ok, Err, Option, Result}
 use Rattle.std.specs.Borrow.{Bor}
 use Rattle.std.specs.Option.{option_map}
-use Rattle.form.specs.Bounds.{bounds}
 use Rattle.form.specs.Model.{Range}
 use Rattle.form.specs.Shown.{ArgRecord}
-use Rattle.form.specs.declared.range.ValueRange.{ValueRange}
 use Rattle.form.specs.declared.refusal.RangeFault.{RangeFault}
 use Rattle.form.specs.declared.refusal.RangeFault.TheVariants.{LeastAboveMost}
 use Rattle.calls.specs.Calls.{RecordOf}
@@ -13,11 +11,6 @@ use Rattle.calls.specs.Called.{range_of, ordered, can_make, arg_called, record_c
 use Rattle.calls.specs.declared.call.Bounds.{Bounds}
 use Rattle.calls.specs.declared.records.ArgRecord.{ArgRecord as ArgIn}
 use Rattle.calls.specs.declared.records.Record.{Record}
-use Rattle.book_tables.specs.Taken.{within_ok}
-
--- what the code made of a range
-abbrev pub range_given : Result (Option ValueRange) RangeFault → Result (Option Range) RangeFault
-range_given r = within_ok (option_map bounds) r
 
 -- the range, or the record with it, where its least is not above its most
 abbrev pub range_made : Option Bounds → Result (Option Range) RangeFault

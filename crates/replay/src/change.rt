@@ -10,22 +10,22 @@ use book::OpenBook;
 use calls::{Bounds, Call, Record};
 use form::Refusal;
 
-fn enter(book: &mut OpenBook, record: Record<&[u8], Bounds>) -> Result<u16, Refusal>
-    ensures answer { mark_or result ≡ open_answer (open_marked book.old) (enter_call record.entry) }
-    ensures after { open_marked book.new ≡ open_after (open_marked book.old) (enter_call record.entry) }
+fn enter(book: &mut OpenBook, entry: Record<&[u8], Bounds>) -> Result<u16, Refusal>
+    ensures answer { mark_or result ≡ open_answer (open_marked book.old) (enter_call entry.entry) }
+    ensures after { open_marked book.new ≡ open_after (open_marked book.old) (enter_call entry.entry) }
 {
-    match make(record)? {
+    match make(entry)? {
         Record::Argument(arg) => book.enter_arg(arg),
         Record::Group(id) => book.enter_group(id),
         Record::Subcommand(subcommand) => book.enter_subcommand(subcommand),
     }
 }
 
-fn alter(book: &mut OpenBook, mark: u16, record: Record<&[u8], Bounds>) -> Result<(), Refusal>
-    ensures answer { done_or result ≡ open_answer (open_marked book.old) (alter_call mark record.entry) }
-    ensures after { open_marked book.new ≡ open_after (open_marked book.old) (alter_call mark record.entry) }
+fn alter(book: &mut OpenBook, mark: u16, entry: Record<&[u8], Bounds>) -> Result<(), Refusal>
+    ensures answer { done_or result ≡ open_answer (open_marked book.old) (alter_call mark entry.entry) }
+    ensures after { open_marked book.new ≡ open_after (open_marked book.old) (alter_call mark entry.entry) }
 {
-    match make(record)? {
+    match make(entry)? {
         Record::Argument(arg) => book.alter_arg(mark, arg),
         Record::Group(id) => book.alter_group(mark, id),
         Record::Subcommand(subcommand) => book.alter_subcommand(mark, subcommand),
