@@ -1,40 +1,21 @@
 use super::calls_of::calls_of;
 use super::reader::CallLine;
-use console::say_plain_breach;
+use console::{say_plain_breach, say_plain_report};
 use replay::{Answer, Layers, replay_under};
-use rules::Breach;
 use std::alloc::Global;
 use std::fmt;
 use std::fmt::Write;
-
-fn say_listed<W: Write>(out: &mut W, breaches: &[Breach]) -> fmt::Result {
-    let count = breaches.len();
-    writeln!(out, "breaches {count}")?;
-    for breach in breaches {
-        say_plain_breach(out, breach)?;
-    }
-    Ok(())
-}
-
-fn say_first<W: Write>(out: &mut W, first: &Option<Breach>) -> fmt::Result {
-    match first {
-        Some(breach) => say_plain_breach(out, breach),
-        None => writeln!(out, "none"),
-    }
-}
 
 /// An answer in plain notation.
 pub(crate) fn say_answer<W: Write>(out: &mut W, answer: &Answer) -> fmt::Result {
     match answer {
         Answer::Mark(mark) => writeln!(out, "mark {mark}"),
         Answer::Done => writeln!(out, "ok"),
-        Answer::Refused(refusal) => {
-            let number = refusal.number();
-            writeln!(out, "refused {number}")
-        }
+        Answer::Refused(refusal) => writeln!(out, "refused {}", refusal.number()),
         Answer::ListShort(needed) => writeln!(out, "refused 109 needs {needed}"),
-        Answer::Listed(breaches) => say_listed(out, breaches.as_slice()),
-        Answer::First(first) => say_first(out, first),
+        Answer::Listed(breaches) => say_plain_report(out, breaches.as_slice()),
+        Answer::First(Some(breach)) => say_plain_breach(out, breach),
+        Answer::First(None) => writeln!(out, "none"),
         Answer::Place(place) => writeln!(out, "place {place}"),
         Answer::NotNow => writeln!(out, "not now"),
     }
@@ -45,7 +26,7 @@ pub fn say_answers<W: Write>(
     heap: Global,
     out: &mut W,
     layers: Layers,
-    lines: &[CallLine],
+    lines: &[CallLine<'_>],
 ) -> anyhow::Result<()> {
     let calls = calls_of(heap, lines)?;
     let answers = replay_under(heap, layers, calls.as_slice())?;

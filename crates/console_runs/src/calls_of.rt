@@ -5,11 +5,7 @@ use std::alloc::{AllocError, Global};
 /// The calls of the lines, in order.
 pub(crate) fn calls_of<'a>(
     heap: Global,
-    lines: &'a [CallLine],
-) -> Result<Vec<Call<'a>>, AllocError> {
-    let mut calls = Vec::new(heap);
-    for line in lines {
-        calls.push(line.line.call())?;
-    }
-    Ok(calls)
+    lines: &'a [CallLine<'_>],
+) -> Result<Vec<Call<&'a [u8]>>, AllocError> {
+    lines.iter().map(|line| line.line.lent()).collect(heap)
 }

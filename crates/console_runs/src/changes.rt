@@ -3,36 +3,40 @@ use console::kind_word;
 use rules::{Breach, Entry};
 use std::alloc::{AllocError, Global};
 use std::collections::BTreeSet;
+use std::fmt;
 use std::fmt::Write;
 
 // an entry by its mark; the standard flags, which stand behind the entries of the book, have none
-fn entry_text(heap: Global, book: &BuiltBook, entry: Entry) -> Result<String, AllocError> {
-    let kind = kind_word(entry.kind);
-    match book.mark(entry.kind, entry.place) {
-        Some(mark) => format!(in heap; " {kind} of mark {mark}"),
-        None => {
-            let place = entry.place;
-            format!(in heap; " standard flag at place {place}")
-        }
-    }
+#[derive(Clone, Copy)]
+struct Marked<'a> {
+    book: &'a BuiltBook,
+    entry: Option<Entry>,
 }
 
-fn maybe_entry(heap: Global, book: &BuiltBook, entry: Option<Entry>) -> Result<String, AllocError> {
-    match entry {
-        Some(entry) => entry_text(heap, book, entry),
-        None => format!(in heap; ""),
+impl fmt::Display for Marked<'_> {
+    fn fmt<W: Write>(&self, f: &mut fmt::Formatter<W>) -> fmt::Result {
+        let Some(entry) = self.entry else {
+            return Ok(());
+        };
+        match self.book.mark(entry.kind, entry.place) {
+            Some(mark) => write!(f, " {} of mark {mark}", kind_word(entry.kind)),
+            None => write!(f, " standard flag at place {}", entry.place),
+        }
     }
 }
 
 // a breach by the marks of its entries: this is what two reports are compared by
 fn breach_text(heap: Global, book: &BuiltBook, breach: &Breach) -> Result<String, AllocError> {
     let rule = breach.rule.number();
-    let first = maybe_entry(heap, book, breach.first)?;
-    let second = maybe_entry(heap, book, breach.second)?;
-    let list = match breach.list {
-        Some(list) => list.number(),
-        None => 0,
+    let first = Marked {
+        book,
+        entry: breach.first,
     };
+    let second = Marked {
+        book,
+        entry: breach.second,
+    };
+    let list = breach.list.map_or(0, |list| list.number());
     let item = breach.item;
     let other = breach.other;
     format!(in heap; "rule {rule}:{first}{second}, list {list}, items {item} and {other}")
@@ -57,10 +61,8 @@ fn say_missing<W: Write>(
     some: &BTreeSet<String>,
     others: &BTreeSet<String>,
 ) -> anyhow::Result<()> {
-    for text in some {
-        if !others.contains(text) {
-            writeln!(out, "    {word}: {text}")?;
-        }
+    for text in some.difference(others) {
+        writeln!(out, "    {word}: {text}")?;
     }
     Ok(())
 }

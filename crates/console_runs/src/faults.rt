@@ -1,10 +1,10 @@
 use super::reader::FaultLine;
 use console::Text;
-use notation::{next_word, without_comment};
-use script::{Fault, FaultKind};
+use script::FaultKind;
 use std::fmt;
 use std::fmt::Write;
 
+// Words for people stand in the crate that speaks, and not in a `Display` of `script`.
 fn sentence(kind: FaultKind) -> &'static str {
     match kind {
         FaultKind::NoSuchCall =>
@@ -30,47 +30,20 @@ fn sentence(kind: FaultKind) -> &'static str {
     }
 }
 
-// the last word of a text
-fn last_word(text: &[u8]) -> &[u8] {
-    let mut last = &text[0..0];
-    let mut rest = text;
-    loop {
-        let (word, later) = next_word(rest);
-        if word.is_empty() {
-            return last;
-        }
-        last = word;
-        rest = later;
-    }
-}
-
-// the word that a fault is about
-fn word_of<'a>(line: &'a [u8], fault: Fault) -> &'a [u8] {
-    let code = without_comment(line);
-    let end = code.len().saturating_sub(fault.left);
-    match code.get(0..end) {
-        Some(front) => last_word(front),
-        None => code,
-    }
-}
-
-fn say_fault<W: Write>(out: &mut W, script: &[u8], faulty: &FaultLine) -> fmt::Result {
+fn say_fault<W: Write>(out: &mut W, faulty: &FaultLine<'_>) -> fmt::Result {
     let number = faulty.spot.number;
-    let line = faulty.spot.text(script);
     let reason = sentence(faulty.fault.kind);
-    write!(out, "line {number}: `{}`: ", Text::new(line))?;
-    match faulty.fault.kind {
-        FaultKind::WordMissing | FaultKind::FieldMissing | FaultKind::FieldElsewhere => {
-            writeln!(out, "{reason}")
-        }
-        _ => writeln!(out, "`{}` {reason}", Text::new(word_of(line, faulty.fault))),
+    write!(out, "line {number}: `{}`: ", Text::new(faulty.spot.text))?;
+    match faulty.fault.word {
+        [] => writeln!(out, "{reason}"),
+        word => writeln!(out, "`{}` {reason}", Text::new(word)),
     }
 }
 
 /// Says of each line that is no call why it is none.
-pub fn say_faults<W: Write>(out: &mut W, script: &[u8], faults: &[FaultLine]) -> fmt::Result {
+pub fn say_faults<W: Write>(out: &mut W, faults: &[FaultLine<'_>]) -> fmt::Result {
     for faulty in faults {
-        say_fault(out, script, faulty)?;
+        say_fault(out, faulty)?;
     }
     Ok(())
 }

@@ -1,63 +1,48 @@
-use notation::split_line;
+use notation::Lines;
 use script::{Fault, Line, read_line};
 use std::alloc::{AllocError, Global};
 
-/// Where a line stands in a script: its number from 1, and its bytes.
+/// A line of a script: its number from 1, and its text without blanks at its ends.
 #[derive(Clone, Copy)]
-pub struct Spot {
+pub struct Spot<'a> {
     pub number: usize,
-    start: usize,
-    end: usize,
-}
-
-impl Spot {
-    /// The text of the line.
-    pub(crate) fn text<'a>(&self, script: &'a [u8]) -> &'a [u8] {
-        match script.get(self.start..self.end) {
-            Some(line) => line.trim_ascii(),
-            None => &script[0..0],
-        }
-    }
+    pub text: &'a [u8],
 }
 
 /// A line that is a call.
 #[derive(Clone, Copy)]
-pub struct CallLine {
-    pub spot: Spot,
+pub struct CallLine<'a> {
+    pub spot: Spot<'a>,
     pub line: Line,
 }
 
 /// A line that should be a call, and is none.
 #[derive(Clone, Copy)]
-pub struct FaultLine {
-    pub spot: Spot,
-    pub fault: Fault,
+pub struct FaultLine<'a> {
+    pub spot: Spot<'a>,
+    pub fault: Fault<'a>,
 }
 
 /// The lines of a script.
 #[derive(Drop)]
-pub struct ScriptText {
-    pub lines: Vec<CallLine>,
-    pub faults: Vec<FaultLine>,
+pub struct ScriptText<'a> {
+    pub lines: Vec<CallLine<'a>>,
+    pub faults: Vec<FaultLine<'a>>,
 }
 
 /// Reads a script, one call a line; `#` begins a comment, and empty lines are passed over.
-pub fn read_script(heap: Global, text: &[u8]) -> Result<ScriptText, AllocError> {
+pub fn read_script(heap: Global, text: &[u8]) -> Result<ScriptText<'_>, AllocError> {
     let mut read = ScriptText {
         lines: Vec::new(heap),
         faults: Vec::new(heap),
     };
-    let mut rest = text;
+    // not `enumerate`: that its count of lines fits was tried, and the proof did not close
     let mut number = 0usize;
-    while !rest.is_empty() {
-        let start = text.len().saturating_sub(rest.len());
-        let (line, later) = split_line(rest);
-        rest = later;
+    for line in Lines::new(text) {
         number = number.saturating_add(1);
         let spot = Spot {
             number,
-            start,
-            end: start.saturating_add(line.len()),
+            text: line.trim_ascii(),
         };
         match read_line(line) {
             Ok(found) => {

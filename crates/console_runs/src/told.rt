@@ -2,7 +2,7 @@ use super::changes::say_changes;
 use super::reader::CallLine;
 use super::words::refusal_words;
 use book::BuiltBook;
-use console::{Text, say_breach, say_report};
+use console::{Style, Text, say_breach, say_report};
 use form::{FormSource, Keyed};
 use layers::StandardFlags;
 use replay::{Answer, HeldBook, Layers};
@@ -22,12 +22,10 @@ fn say_short<W: Write>(out: &mut W, answer: &Answer) -> fmt::Result {
             let reason = refusal_words(*refusal);
             writeln!(out, "  refused ({number}): {reason}; nothing was changed")
         }
-        Answer::ListShort(needed) => {
-            writeln!(
-                out,
-                "  refused (109): the list is too short; it needs room for {needed}"
-            )
-        }
+        Answer::ListShort(needed) => writeln!(
+            out,
+            "  refused (109): the list is too short; it needs room for {needed}"
+        ),
         Answer::Place(place) => writeln!(out, "  found: the argument at place {place}"),
         Answer::NotNow => writeln!(
             out,
@@ -44,12 +42,13 @@ fn say_breaches<F: FormSource, W: Write>(out: &mut W, form: &F, answer: &Answer)
         Answer::First(Some(breach)) => say_breach(out, form, breach),
         Answer::Listed(breaches) => {
             write!(out, "  ")?;
-            say_report(out, form, breaches.as_slice(), false)
+            say_report(out, form, breaches.as_slice(), Style::Words)
         }
         _ => Ok(()),
     }
 }
 
+// As where the book is asked, each number of layers is a type of its own, and a trait would be no plainer than the match.
 fn say_under<W: Write>(
     out: &mut W,
     layers: Layers,
@@ -72,17 +71,16 @@ pub fn say_run<W: Write>(
     heap: Global,
     out: &mut W,
     layers: Layers,
-    script: &[u8],
-    lines: &[CallLine],
+    lines: &[CallLine<'_>],
 ) -> anyhow::Result<()> {
     let mut held = HeldBook::new(heap)?;
     let mut last: BTreeSet<String> = BTreeSet::new(heap);
     for line in lines {
-        let (next, answer) = held.call(heap, layers, line.line.call());
+        let (next, answer) = held.call(heap, layers, line.line.lent());
         held = next;
         let answer = answer?;
         let number = line.spot.number;
-        writeln!(out, "line {number}: {}", Text::new(line.spot.text(script)))?;
+        writeln!(out, "line {number}: {}", Text::new(line.spot.text))?;
         say_short(out, &answer)?;
         if let HeldBook::Built(book) = &held {
             say_under(out, layers, book, &answer)?;

@@ -1,6 +1,6 @@
 use form::Refusal;
 
-/// Why a call was refused.
+/// Why a call was refused. Words for people stand in the crate that speaks, and not in a `Display` of `form`.
 pub(crate) fn refusal_words(refusal: Refusal) -> &'static str {
     match refusal {
         Refusal::RangeOrder => "the least number of values would be above the most",
