@@ -34,7 +34,7 @@ fn name_at<F: FormSource>(form: &F, place: usize, number: usize) -> &[u8]
 fn is_earlier(place: usize, number: usize, later: usize, item: usize) -> bool
     ensures { result ≡ earlier place number later item }
 {
-    place < later || place == later && number < item
+    (place, number) < (later, item)
 }
 
 /// The rule that a name breaks by being taken.

@@ -1,4 +1,4 @@
-use Rattle.std.proofs.Common.{rules, ap, ◌∙◌, sym, ◌∙◌}
+use Rattle.std.proofs.Common.{rules, ◌∙◌, sym, ◌∙◌}
 use borrow.Author.Tests.{tests}
 use Rattle.std.specs.Str.{bytes_eq}
 use Rattle.form.specs.Model.{Arg}
