@@ -1,4 +1,4 @@
-ghost use Rattle.std.specs.Prelude.{◌≡◌, not};
+ghost use Rattle.std.specs.Prelude.{◌≡◌};
 ghost use Rattle.form.specs.Keys.{listed};
 ghost use Rattle.form.specs.Model.{Form};
 ghost use Rattle.rules.specs.Rows as rows;

@@ -1,4 +1,4 @@
-ghost use Rattle.std.specs.Prelude.{◌≡◌, ◌<◌, not, length, None, slice_index_or, refl};
+ghost use Rattle.std.specs.Prelude.{◌≡◌, ◌<◌, length, None, slice_index_or, refl};
 ghost use Rattle.std.specs.Option.{option_map};
 ghost use Rattle.rules.specs.Told.{of_flags};
 ghost use Rattle.rules.specs.Words.{owners};
