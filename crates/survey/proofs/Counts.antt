@@ -1,5 +1,5 @@
 -- The indices of a table of arguments, counted from the front.
-use Rattle.std.proofs.Common.{◌≡◌, ℕ, ◌+◌, ◌<◌, ◌≤◌, max, List, [], ◌∷◌, length, get_or, drop, Some, None, sym, ap, ◌∙◌, zero-add, add-one, arith, drop-cons}
+use Rattle.std.proofs.Common.{◌≡◌, ℕ, ◌+◌, ◌<◌, ◌≤◌, max, List, [], ◌∷◌, length, get_or, drop, Some, None, sym, ap, ◌∙◌, add-one, arith, drop-cons}
 use native.Mathlib.Nat.{max-zero, max_comm}
 use Rattle.std.proofs.lemmas.List.{drop_all}
 use Rattle.form.specs.Model.{Arg, blank_arg}
@@ -14,12 +14,6 @@ pub record Counted (xs : List Arg) (i n h : ℕ) : Type 0 where
 
 max_assoc : (a b c : ℕ) → max (max a b) c ≡ max a (max b c)
 max_assoc a b c = omega arith
-
-pub counted_none : (xs : List Arg) → Counted xs 0 0 0
-counted_none xs = record { few = omega arith; count = zero-add (length (indices xs)); highest = zero_max (top (indices xs)) }
-  where
-    zero_max : (n : ℕ) → max 0 n ≡ n
-    zero_max n = max_comm 0 n ∙ max-zero n
 
 pub counted_skip : (xs : List Arg) (i n h : ℕ) → i < length xs → (get_or xs i blank_arg).index ≡ None → Counted xs i n h → Counted xs (i + 1) n h
 counted_skip xs i n h lt e c =

@@ -1,5 +1,5 @@
 -- The walk over the positions, from the highest down.
-use Rattle.std.proofs.Common.{◌≡◌, ℕ, suc, ◌-◌, ◌≤◌, Bool, true, false, cond, not, ◌&&◌, ◌||◌, List, [], ◌∷◌, ◌++◌, Some, None, sym, refl, ap, ◌∙◌, add-one, arith}
+use Rattle.std.proofs.Common.{◌≡◌, ℕ, suc, ◌-◌, ◌≤◌, Bool, true, false, cond, not, ◌&&◌, ◌||◌, List, [], ◌++◌, Some, None, sym, refl, ap, ◌∙◌, add-one, arith}
 use native.Mathlib.Nat.{sub_self}
 use Rattle.std.specs.List.{range_with_len}
 use Rattle.form.specs.Model.{Form}
@@ -12,18 +12,13 @@ use Rattle.rules.specs.Report.{down, position_report}
 use Rattle.rules.specs.Told.{argument, of_one}
 use Rattle.rules.specs.declared.rule.Rule.TheVariants.{OptionalBeforeRequired}
 use Rattle.rules.specs.declared.breach.Breach.{Breach}
+use Rattle.survey.proofs.Tables.{blocks_from}
 use Rattle.survey.specs.Settled.{settles}
 use Rattle.std.specs.Bool.{⊤}
 use Rattle.std.proofs.Common.{Break}
 use Rattle.sinks.specs.Flow.{flow}
 use Rattle.sinks.specs.declared.sink.Sink.{Ghosts}
 use Rattle.sinks.proofs.Walks.{then_stop}
-
--- where the place does not matter, neither does the first place
-pub blocks_shift : {X : Type 0} (h : X → List Breach) (m n : ℕ) (xs : List X) → blocks (λ _ x. h x) m xs ≡ blocks (λ _ x. h x) n xs
-unfolding blocks
-blocks_shift h m n [] = refl
-blocks_shift h m n (x ∷ xs) = ap (λ l. h x ++ l) (blocks_shift h (suc m) (suc n) xs)
 
 -- what the position n tells, and what the positions from n down to 1 tell
 abbrev pub told_at : Form → ℕ → List Breach
@@ -34,7 +29,7 @@ told_down f n = blocks (λ _ m. told_at f m) 0 (down n)
 
 pub told_more : (f : Form) (n m : ℕ) → n ≡ suc m → told_down f n ≡ told_at f n ++ told_down f m
 unfolding blocks
-told_more f n m e = rw e (ap (λ l. told_at f (suc m) ++ l) (blocks_shift (told_at f) 1 0 (down m)))
+told_more f n m e = rw e (ap (λ l. told_at f (suc m) ++ l) (blocks_from (told_at f) 1 0 (down m)))
 
 pub told_none : (f : Form) (n : ℕ) → n ≡ 0 → told_down f n ≡ []
 unfolding blocks

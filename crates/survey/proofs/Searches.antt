@@ -2,8 +2,14 @@
 use Rattle.std.proofs.Common.{◌≡◌, ℕ, zero, suc, ◌+◌, ◌<◌, ◌≤◌, Bool, true, false, cond, ◌||◌, ◌++◌, List, [], ◌∷◌, map, length, get_or, Some, None, sym, refl, ap, zero-add, add-zero, filter, Option, ◌∙◌, arith}
 use Rattle.std.specs.Bool.{MatchBool}
 use Rattle.std.specs.Option.{MatchOption}
-use Rattle.std.specs.List.{AllWithin, HoldsAt, range_with_len}
+use Rattle.std.specs.List.{AllWithin, HoldsAt, FoldsTo, range_with_len}
 use Rattle.std.proofs.lemmas.List.FromFn.{length-range_with_len, get_or-range_with_len}
+use Rattle.std.proofs.lemmas.Iterator.{cases_from_any, YieldsList-from_range}
+use Rattle.std.proofs.iter.Yields.{nat_range_steps}
+use Rattle.std.specs.Iterator.{YieldsThen}
+use Rattle.std.specs.Fn.{Called}
+use Rattle.std.specs.declared.ops.Range.{Range}
+use denote.Param.Members.{Mut}
 use Rattle.form.specs.Model.{Arg, blank_arg}
 use Rattle.rules.specs.Order.{some}
 use Rattle.rules.specs.Rows.{is_number, first_at}
@@ -22,7 +28,7 @@ some_true test (x ∷ xs) d (suc k) l e = go (test x) (some_true test xs d k (om
   go false h = h
 
 -- what `any` over the places of a table says
-pub any_place : {X : Type 0} (test : X → Bool) (xs : List X) (d : X) (n : ℕ) (r : Bool) → n ≡ length xs
+any_place : {X : Type 0} (test : X → Bool) (xs : List X) (d : X) (n : ℕ) (r : Bool) → n ≡ length xs
     → MatchBool r ((k : ℕ) × (k < length (range_with_len 0 n)) × HoldsAt (λ j. test (get_or xs j d) ≡ true) (range_with_len 0 n) k) (AllWithin (λ j. test (get_or xs j d) ≡ false) (range_with_len 0 n) 0 (length (range_with_len 0 n)))
     → r ≡ some test xs
 any_place test xs d n true e m =
@@ -30,8 +36,15 @@ any_place test xs d n true e m =
     sym (some_true test xs d m.0 (omega arith) (rw (get_or-range_with_len 0 n m.0 0 lt, zero-add m.0) at (m.2 0)))
 any_place test xs d n false e m =
     sym (some_false test xs d (λ k l.
-        let lt : k < n = omega arith in
-        rw (get_or-range_with_len 0 n k 0 lt, zero-add k) at (m k 0 (omega arith) (rw length-range_with_len lt))))
+    let lt : k < n = omega arith in
+    rw (get_or-range_with_len 0 n k 0 lt, zero-add k) at (m k 0 (omega arith) (rw length-range_with_len lt))))
+
+pub any_is : {X F : Type 0} {g : Mut F (ℕ × Unit {0}) Bool} (test : X → Bool) (xs : List X) (d : X) (n : ℕ) (u : Range ℕ) (f : F) (r : Bool) → n ≡ length xs
+    → (ys : List ℕ) × (o : Option ℕ) × (j : F) × YieldsThen nat_range_steps (record { start = 0; end = n }) ys o u × FoldsTo (λ p x q. Called g p (x, tt) false q) f ys j × MatchOption o (r ≡ false) (λ x. (r ≡ true) × ((h : F) × Called g j (x, tt) true h))
+    → ((x : ℕ) (q : F) → Called g f (x, tt) true q → test (get_or xs x d) ≡ true) → ((x : ℕ) (q : F) → Called g f (x, tt) false q → (q ≡ f) × (test (get_or xs x d) ≡ false))
+    → r ≡ some test xs
+any_is test xs d n u f r e ran passes fails =
+    any_place test xs d n r e (cases_from_any u f r (λ j. test (get_or xs j d) ≡ true) (λ j. test (get_or xs j d) ≡ false) ran (YieldsList-from_range 0 n n refl (omega arith)) passes fails)
 
 -- a test of what h makes of each element
 pub some_map : {X Y : Type 0} (test : Y → Bool) (h : X → Y) (xs : List X) → some test (map h xs) ≡ some (λ x. test (h x)) xs

@@ -64,7 +64,7 @@ pub each_by : {S : Type 0} (after : S → List Breach → S → Type 0) (s t : S
 each_by after s t f tests rows as_said a = subst (λ l. after s l t) (blocks_same (λ p a. tests_told (argument p) (tests a)) (λ p a. blocks (λ _ r. arg_report f p a r) 0 rows) 0 f.args (λ p a. agree f p a (tests a) rows (as_said a))) a
 
 -- rows do not look at their own places
-blocks_from : {X : Type 0} (h : X → List Breach) (m n : ℕ) (xs : List X) → blocks (λ _ x. h x) m xs ≡ blocks (λ _ x. h x) n xs
+pub blocks_from : {X : Type 0} (h : X → List Breach) (m n : ℕ) (xs : List X) → blocks (λ _ x. h x) m xs ≡ blocks (λ _ x. h x) n xs
 unfolding blocks
 blocks_from h m n [] = refl
 blocks_from h m n (x ∷ xs) = ap (λ l. h x ++ l) (blocks_from h (suc m) (suc n) xs)

@@ -1,4 +1,4 @@
-ghost use Rattle.std.specs.Prelude.{◌≡◌, not};
+ghost use Rattle.std.specs.Prelude.{◌≡◌};
 ghost use Rattle.form.specs.Keys.{listed};
 ghost use Rattle.form.specs.Model.{Form};
 ghost use Rattle.rules.specs.Rows as rows;
@@ -73,36 +73,47 @@ fn ends<F: FormSource>(form: &F) -> Option<(usize, usize)>
     Some((last, before))
 }
 
-/// Whether the last position is optional and follows one that nothing ends.
-fn open_before_optional(last: &ArgView<'_>, before: &ArgView<'_>) -> bool
-    ensures { (f : Form) → result ≡ rows.open_before_optional f (seen last.now) (seen before.now) }
-{
-    let optional = !last.settings.is_set(ArgSettings::Required)
-        && !last.settings.is_set(ArgSettings::Last);
-    optional && !before.settings.is_set(ArgSettings::Last) && !before.terminated
+/// The arguments at the two ends: the first of the highest position, and of the one before.
+#[derive(Drop)]
+struct TwoEnds<'a, F> {
+    form: &'a F,
+    last: ArgView<'a>,
+    before: ArgView<'a>,
 }
 
-/// Whether, before a last position that is not Last, a multiple argument stands lower than right before it.
-fn multiple_low<F: FormSource>(form: &F, last: &ArgView<'_>, before: &ArgView<'_>) -> bool
-    ensures { result ≡ rows.multiple_low (F.FormSource.form form.now) (seen last.now) (seen before.now) }
-{
-    !last.settings.is_set(ArgSettings::Last)
-        && (!is_multiple(before) || open_below(form, index_or_0(before)))
-}
+impl<F: FormSource> TwoEnds<'_, F> {
+    /// Whether the last position is optional and follows one that nothing ends.
+    fn open_before_optional(&self) -> bool
+        ensures { (f : Form) → result ≡ rows.open_before_optional f (seen self.now.last) (seen self.now.before) }
+    {
+        let optional = !self.last.settings.is_set(ArgSettings::Required)
+            && !self.last.settings.is_set(ArgSettings::Last);
+        optional && !self.before.settings.is_set(ArgSettings::Last) && !self.before.terminated
+    }
 
-/// Whether the two can both be wide: the last one is Last, and the one before it multiple.
-fn is_paired(last: &ArgView<'_>, before: &ArgView<'_>) -> bool
-    ensures { result ≡ paired (seen last.now) (seen before.now) }
-{
-    is_wide(last) && last.settings.is_set(ArgSettings::Last) && is_multiple(before)
-}
+    /// Whether, before a last position that is not Last, a multiple argument stands lower than right before it.
+    fn multiple_low(&self) -> bool
+        ensures { result ≡ rows.multiple_low (F.FormSource.form self.now.form.now) (seen self.now.last) (seen self.now.before) }
+    {
+        !self.last.settings.is_set(ArgSettings::Last)
+            && (!is_multiple(&self.before) || open_below(self.form, index_or_0(&self.before)))
+    }
 
-/// Whether there are two wide arguments or more, and not just two that can be paired.
-fn too_many_wide<F: FormSource>(form: &F, last: &ArgView<'_>, before: &ArgView<'_>) -> bool
-    ensures { result ≡ rows.too_many_wide (F.FormSource.form form.now) (seen last.now) (seen before.now) }
-{
-    let count = wide_count(form);
-    1 < count && !(count == 2 && is_paired(last, before))
+    /// Whether the two can both be wide: the last one is Last, and the one before it multiple.
+    fn is_paired(&self) -> bool
+        ensures { result ≡ paired (seen self.now.last) (seen self.now.before) }
+    {
+        let wide_last = is_wide(&self.last) && self.last.settings.is_set(ArgSettings::Last);
+        wide_last && is_multiple(&self.before)
+    }
+
+    /// Whether there are two wide arguments or more, and not just two that can be paired.
+    fn too_many_wide(&self) -> bool
+        ensures { result ≡ rows.too_many_wide (F.FormSource.form self.now.form.now) (seen self.now.last) (seen self.now.before) }
+    {
+        let count = wide_count(self.form);
+        1 < count && !(count == 2 && self.is_paired())
+    }
 }
 
 /// Offers what the arguments at the two ends break.
@@ -115,15 +126,18 @@ fn offer_ends<F: FormSource, S: Sink>(
     ensures took { S.Sink.after sink.old (ends_told (F.FormSource.form form.now) last before) sink.new }
     ensures goes { result ≡ flow (S.Sink.full sink.new) }
 {
-    let last_arg = form.arg(last);
-    let before_arg = form.arg(before);
+    let ends = TwoEnds {
+        form,
+        last: form.arg(last),
+        before: form.arg(before),
+    };
     let first = argument_at(last);
     let second = argument_at(before);
-    let open = open_before_optional(&last_arg, &before_arg);
+    let open = ends.open_before_optional();
     offer_if(open, of_two(Rule::OpenBeforeOptional, first, second), sink)?;
-    let low = multiple_low(form, &last_arg, &before_arg);
+    let low = ends.multiple_low();
     offer_if(low, of_two(Rule::MultipleElsewhere, first, second), sink)?;
-    let many = too_many_wide(form, &last_arg, &before_arg);
+    let many = ends.too_many_wide();
     offer_if(many, of_two(Rule::TooManyMultiple, first, second), sink)
 }
 

@@ -4,17 +4,23 @@ ghost use Rattle.std.specs.Str.{bytes_eq};
 ghost use Rattle.form.specs.Model.{Name, Form};
 ghost use Rattle.rules.specs.Words.{Owner};
 ghost use Rattle.rules.specs.Rows.{same_if};
+ghost use Rattle.rules.specs.declared.rule.Rule.{Rule};
+ghost use Rattle.rules.specs.declared.rule.Rule.TheVariants.{SameLongFlag, SameLetterFlag};
 ghost use Rattle.survey.specs.FlagOwners.{owner_in, flags_in, few_longs, few_letters};
 ghost use Rattle.survey.specs.declared.flag_owners.FlagOwner.{FlagOwner};
 
 use super::flag_owners::FlagOwner;
 use form::{FormSource, ItemList};
+use rules::Rule;
 
 /// A kind of flag, over a form: each owner may have a flag of its own, and aliases.
 pub trait FlagKind {
     type Flag: Eq + Copy;
 
     type Source: FormSource;
+
+    // the rule that two owners of the same flag break
+    ghost rule: { Rule };
 
     // the form that the source means
     ghost form: { Self → Form };
@@ -35,6 +41,9 @@ pub trait FlagKind {
     ghost blank: { Plain };
 
     ghost few: { (s : Self) (o : FlagOwner) → length (aliases (owner_in (form s) o)) ≤ 1024 };
+
+    fn rule(&self) -> Rule
+        ensures { result ≡ rule };
 
     fn source(&self) -> &Self::Source
         ensures { Self.Source.FormSource.form result.now ≡ form self.now };
@@ -62,6 +71,8 @@ impl<'a, F: FormSource> FlagKind for LongFlags<'a, F> {
 
     type Source = F;
 
+    ghost rule = { SameLongFlag };
+
     ghost form = { λ s. F.FormSource.form s.form.now };
 
     ghost Plain = { Name };
@@ -77,6 +88,10 @@ impl<'a, F: FormSource> FlagKind for LongFlags<'a, F> {
     ghost blank = { [] };
 
     ghost few = { λ s o. few_longs (F.FormSource.form s.form.now) (F.FormSource.fits s.form.now) o };
+
+    fn rule(&self) -> Rule {
+        Rule::SameLongFlag
+    }
 
     fn source(&self) -> &F {
         self.form
@@ -115,6 +130,8 @@ impl<'a, F: FormSource> FlagKind for LetterFlags<'a, F> {
 
     type Source = F;
 
+    ghost rule = { SameLetterFlag };
+
     ghost form = { λ s. F.FormSource.form s.form.now };
 
     ghost Plain = { ℕ };
@@ -130,6 +147,10 @@ impl<'a, F: FormSource> FlagKind for LetterFlags<'a, F> {
     ghost blank = { 0 };
 
     ghost few = { λ s o. few_letters (F.FormSource.form s.form.now) (F.FormSource.fits s.form.now) o };
+
+    fn rule(&self) -> Rule {
+        Rule::SameLetterFlag
+    }
 
     fn source(&self) -> &F {
         self.form

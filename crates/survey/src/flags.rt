@@ -1,4 +1,4 @@
-ghost use Rattle.std.specs.Prelude.{◌≡◌, ◌<◌, not, length, None, slice_index_or, refl};
+ghost use Rattle.std.specs.Prelude.{◌≡◌, ◌<◌, length, None, slice_index_or, refl};
 ghost use Rattle.std.specs.Option.{option_map};
 ghost use Rattle.rules.specs.Told.{of_flags};
 ghost use Rattle.rules.specs.Words.{owners};
@@ -11,16 +11,15 @@ ghost use Rattle.sinks.specs.Flow.{flow};
 use super::flag_kinds::{FlagKind, LetterFlags, LongFlags, flag, flag_count};
 use super::flag_owners::{FlagOwner, differ, owner_at, owner_count};
 use form::FormSource;
-use rules::{Breach, Entry, Rule};
+use rules::{Breach, Entry};
 use sinks::{Row, Sink, of_flags, offer_same};
 use std::ops::ControlFlow;
 
-/// The flags of an owner, as a row; a twin of flag `item` of `first` breaks the rule.
+/// The flags of an owner, as a row; a twin of flag `item` of `first` breaks the rule of the kind.
 #[derive(Drop)]
 struct OwnerFlags<'a, K> {
     kind: &'a K,
     owner: FlagOwner,
-    rule: Rule,
     first: Entry,
     item: usize,
 }
@@ -32,27 +31,32 @@ impl<K: FlagKind> Row for OwnerFlags<'_, K> {
 
     ghost lone = { λ s m. refl };
 
-    ghost tells = { λ s m. of_flags s.rule s.first s.item (owner_in (K.FlagKind.form s.kind.now) s.owner).entry m };
+    ghost tells = { λ s m. of_flags K.FlagKind.rule s.first s.item (owner_in (K.FlagKind.form s.kind.now) s.owner).entry m };
 
     fn at(&self, place: usize) -> Option<K::Flag> {
         flag(self.kind, self.owner, place)
     }
 
     fn tell(&self, place: usize) -> Breach {
-        of_flags(self.rule, self.first, self.item, self.owner.entry(), place)
+        of_flags(
+            self.kind.rule(),
+            self.first,
+            self.item,
+            self.owner.entry(),
+            place,
+        )
     }
 }
 
 /// Offers the flags of `other` that are the same as flag `item` of `one`, if the two owners differ.
 fn offer_clashes<K: FlagKind, S: Sink>(
     kind: &K,
-    rule: Rule,
     one: FlagOwner,
     item: usize,
     other: FlagOwner,
     sink: &mut S,
 ) -> ControlFlow<()>
-    ensures took { S.Sink.after sink.old (clash_told K.FlagKind.same (flags_in K.FlagKind.own K.FlagKind.aliases) rule (owner_in (K.FlagKind.form kind.now) one) item (owner_in (K.FlagKind.form kind.now) other)) sink.new }
+    ensures took { S.Sink.after sink.old (clash_told K.FlagKind.same (flags_in K.FlagKind.own K.FlagKind.aliases) K.FlagKind.rule (owner_in (K.FlagKind.form kind.now) one) item (owner_in (K.FlagKind.form kind.now) other)) sink.new }
     ensures goes { result ≡ flow (S.Sink.full sink.new) }
 {
     if !differ(kind.source(), one, other) {
@@ -61,7 +65,6 @@ fn offer_clashes<K: FlagKind, S: Sink>(
     let row = OwnerFlags {
         kind,
         owner: other,
-        rule,
         first: one.entry(),
         item,
     };
@@ -77,48 +80,42 @@ fn offer_clashes<K: FlagKind, S: Sink>(
 /// Offers the flags of later owners that are the same as flag `item` of owner `number`.
 fn offer_flag<K: FlagKind, S: Sink>(
     kind: &K,
-    rule: Rule,
     number: usize,
     item: usize,
     sink: &mut S,
 ) -> ControlFlow<()>
     requires { number < length (owners (K.FlagKind.form kind.now)) }
-    ensures took { S.Sink.after sink.old (flag_told K.FlagKind.same (flags_in K.FlagKind.own K.FlagKind.aliases) rule (K.FlagKind.form kind.now) number item) sink.new }
+    ensures took { S.Sink.after sink.old (flag_told K.FlagKind.same (flags_in K.FlagKind.own K.FlagKind.aliases) K.FlagKind.rule (K.FlagKind.form kind.now) number item) sink.new }
     ensures goes { result ≡ flow (S.Sink.full sink.new) }
 {
     let form = kind.source();
     let one = owner_at(form, number);
     for later in number + 1..owner_count(form) {
-        offer_clashes(kind, rule, one, item, owner_at(form, later), sink)?;
+        offer_clashes(kind, one, item, owner_at(form, later), sink)?;
     }
     sink.go_on()
 }
 
 /// Offers the clashes of the flags of owner `number` with those of later owners.
-fn offer_owner<K: FlagKind, S: Sink>(
-    kind: &K,
-    rule: Rule,
-    number: usize,
-    sink: &mut S,
-) -> ControlFlow<()>
+fn offer_owner<K: FlagKind, S: Sink>(kind: &K, number: usize, sink: &mut S) -> ControlFlow<()>
     requires { number < length (owners (K.FlagKind.form kind.now)) }
-    ensures took { S.Sink.after sink.old (owner_told K.FlagKind.same (flags_in K.FlagKind.own K.FlagKind.aliases) rule (K.FlagKind.form kind.now) number) sink.new }
+    ensures took { S.Sink.after sink.old (owner_told K.FlagKind.same (flags_in K.FlagKind.own K.FlagKind.aliases) K.FlagKind.rule (K.FlagKind.form kind.now) number) sink.new }
     ensures goes { result ≡ flow (S.Sink.full sink.new) }
 {
     let owner = owner_at(kind.source(), number);
     for item in 0..flag_count(kind, owner) {
-        offer_flag(kind, rule, number, item, sink)?;
+        offer_flag(kind, number, item, sink)?;
     }
     sink.go_on()
 }
 
 /// Offers the flags of a kind that two different owners have, flag by flag with those of each later owner.
-fn survey_flags<K: FlagKind, S: Sink>(kind: &K, rule: Rule, sink: &mut S) -> ControlFlow<()>
-    ensures took { S.Sink.after sink.old (flags_report K.FlagKind.same (flags_in K.FlagKind.own K.FlagKind.aliases) rule (owners (K.FlagKind.form kind.now))) sink.new }
+fn survey_flags<K: FlagKind, S: Sink>(kind: &K, sink: &mut S) -> ControlFlow<()>
+    ensures took { S.Sink.after sink.old (flags_report K.FlagKind.same (flags_in K.FlagKind.own K.FlagKind.aliases) K.FlagKind.rule (owners (K.FlagKind.form kind.now))) sink.new }
     ensures goes { result ≡ flow (S.Sink.full sink.new) }
 {
     for number in 0..owner_count(kind.source()) {
-        offer_owner(kind, rule, number, sink)?;
+        offer_owner(kind, number, sink)?;
     }
     sink.go_on()
 }
@@ -128,7 +125,7 @@ pub(crate) fn survey_long_flags<F: FormSource, S: Sink>(form: &F, sink: &mut S) 
     ensures took { S.Sink.after sink.old (section_report (F.FormSource.form form.now) (by_long_flag SameLongFlag)) sink.new }
     ensures goes { result ≡ flow (S.Sink.full sink.new) }
 {
-    survey_flags(&LongFlags { form }, Rule::SameLongFlag, sink)
+    survey_flags(&LongFlags { form }, sink)
 }
 
 /// Offers the letter flags that two different owners have.
@@ -136,5 +133,5 @@ pub(crate) fn survey_letter_flags<F: FormSource, S: Sink>(form: &F, sink: &mut S
     ensures took { S.Sink.after sink.old (section_report (F.FormSource.form form.now) (by_letter_flag SameLetterFlag)) sink.new }
     ensures goes { result ≡ flow (S.Sink.full sink.new) }
 {
-    survey_flags(&LetterFlags { form }, Rule::SameLetterFlag, sink)
+    survey_flags(&LetterFlags { form }, sink)
 }

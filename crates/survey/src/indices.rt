@@ -12,6 +12,7 @@ pub struct Positions {
 }
 
 /// The indices of the form, counted.
+// One walk for both: a chain for each would be no plainer, and ask the source for every argument twice.
 pub(crate) fn count_positions<F: FormSource>(form: &F) -> Positions
     ensures count { result.count ≡ words.position_count (F.FormSource.form form.now) }
     ensures highest { result.highest ≡ rows.highest (F.FormSource.form form.now) }

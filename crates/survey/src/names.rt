@@ -1,4 +1,4 @@
-ghost use Rattle.std.specs.Prelude.{◌≡◌, ◌<◌, not, length, refl};
+ghost use Rattle.std.specs.Prelude.{◌≡◌, ◌<◌, length, refl};
 ghost use Rattle.std.specs.Option.{option_map};
 ghost use Rattle.std.specs.Str.{bytes_eq};
 ghost use Rattle.rules.specs.Report.{called, section_report, taken_rule};
@@ -34,7 +34,7 @@ fn name_at<F: FormSource>(form: &F, place: usize, number: usize) -> &[u8]
 fn is_earlier(place: usize, number: usize, later: usize, item: usize) -> bool
     ensures { result ≡ earlier place number later item }
 {
-    place < later || place == later && number < item
+    (place, number) < (later, item)
 }
 
 /// The rule that a name breaks by being taken.

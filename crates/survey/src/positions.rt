@@ -1,4 +1,4 @@
-ghost use Rattle.std.specs.Prelude.{◌≡◌, not};
+ghost use Rattle.std.specs.Prelude.{◌≡◌};
 ghost use Rattle.rules.specs.Report.{section_report};
 ghost use Rattle.rules.specs.Rows as rows;
 ghost use Rattle.looks.specs.Records.{seen};

@@ -1,4 +1,4 @@
-ghost use Rattle.std.specs.Prelude.{◌≡◌, not};
+ghost use Rattle.std.specs.Prelude.{◌≡◌};
 ghost use Rattle.rules.specs.Report.{section_report};
 ghost use Rattle.rules.specs.Rows.{by_subcommand, dashed};
 ghost use Rattle.rules.specs.declared.rule.Rule.TheVariants.{LongFlagDash};

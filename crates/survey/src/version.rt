@@ -1,4 +1,4 @@
-ghost use Rattle.std.specs.Prelude.{◌≡◌, not, ◌&&◌, [], ◌∷◌};
+ghost use Rattle.std.specs.Prelude.{◌≡◌, ◌&&◌, [], ◌∷◌};
 ghost use Rattle.rules.specs.Report.{section_report};
 ghost use Rattle.rules.specs.Rows.{by_argument, whole, is_version, version_without_version};
 ghost use Rattle.rules.specs.declared.rule.Rule.TheVariants.{VersionActionWithoutVersion};

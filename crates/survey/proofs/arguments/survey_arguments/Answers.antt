@@ -23,7 +23,7 @@ walk-preserved g c =
     let before = rw (c.new-arg.ensures.form, c.new-arg.ensures.place) at c.offer_before_items.ensures.took in
     let past = rw (c.new-arg.ensures.form, c.new-arg.ensures.place) at c.offer_after_rules.ensures.took in
     let here : k.after c.walk.sink (rows_told (g.F.FormSource.form c.args.form.now) c.walk.place arg_rows) c.offer_after_rules.new.sink =
-        rw (all_told (g.F.FormSource.form c.args.form.now) c.walk.place) (then_more k _ _ before (then_more k _ _ (walk_end (omega arith) c.loop-list.invariant) past)) in
+    rw (all_told (g.F.FormSource.form c.args.form.now) c.walk.place) (then_more k _ _ before (then_more k _ _ (walk_end (omega arith) c.loop-list.invariant) past)) in
     walk_step blank_arg (omega arith) c.walk.invariant here
 
 pub returns-clause-took : goal.returns-clause-took
@@ -33,7 +33,7 @@ returns-clause-took g c =
     let p = c.walk.place in
     -- left in the argument's turn
     let left : (t : g.row.S.Denot) → p < length f.args → Break tt ≡ flow (k.full t) → k.after c.walk.sink (rows_told f p before_rows ++ (blocks (λ _ x. list_told f p x) 0 references ++ rows_told f p after_rows)) t → k.after c.args.sink.now (section_report f (by_argument 4 arg_rows)) t
-        = λ t lt off here. walk_stop blank_arg lt c.walk.invariant (rw (all_told f p) here) off in
+    = λ t lt off here. walk_stop blank_arg lt c.walk.invariant (rw (all_told f p) here) off in
     elim c.walk-test.branch [
       | else-walk-test w ↦ rw w.sink-is (walk_end (omega arith) c.walk.invariant)
       | then-walk-test+then-is_break w ↦

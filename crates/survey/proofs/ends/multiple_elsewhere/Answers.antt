@@ -1,17 +1,13 @@
-use Rattle.std.proofs.Common.{ap, ◌∙◌, rules, ◌≡◌, true, false, get_or, refl, arith}
-use Rattle.form.specs.Model.{blank_arg}
+use Rattle.std.proofs.Common.{rules, ap, ◌∙◌}
 use borrow.Author.Tests.{tests}
-use Rattle.std.proofs.lemmas.Iterator.{cases_from_any, YieldsList-from_range}
 use Rattle.rules.specs.Order.{some}
 use Rattle.survey.specs.Ends.{is_elsewhere}
-use Rattle.survey.proofs.Searches.{any_place}
+use Rattle.form.specs.Model.{blank_arg}
+use Rattle.survey.proofs.Searches.{any_is}
 use Rattle.survey.proofs.ends.multiple_elsewhere.Goals as goal
 
 pub returns : goal.returns
 returns g c =
     let args = (g.F.FormSource.form c.args.form.now).args in
-    let test = is_elsewhere c.count_positions-highest.result.highest in
-    any_place test args blank_arg c.arg_count.result c.any.result c.arg_count.ensures
-    (cases_from_any _ _ _ (λ j. test (get_or args j blank_arg) ≡ true) (λ j. test (get_or args j blank_arg) ≡ false) c.any.ensures.ran (YieldsList-from_range 0 c.arg_count.result c.arg_count.result refl (omega arith))
-    (λ x q k. search (rules, tests)) (λ x q k. search (rules, tests)))
+    any_is (is_elsewhere c.count_positions-highest.result.highest) args blank_arg _ _ _ _ c.arg_count.ensures c.any.ensures.ran (λ x q k. search (rules, tests)) (λ x q k. search (rules, tests))
     ∙ ap (λ h. some (is_elsewhere h) args) c.count_positions-highest.ensures.highest

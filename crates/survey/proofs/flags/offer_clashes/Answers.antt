@@ -12,7 +12,7 @@ returns-then-not-differ-clause-took g c =
     let o = owner_in f c.args.one in
     let w = owner_in f c.args.other in
     let is : c.differ.result ≡ differ o w = c.differ.ensures ∙ ap (λ h. differ (owner_in h c.args.one) (owner_in h c.args.other)) c.source.ensures in
-    rw (clash_none k.same c.args.rule o c.args.item _ w (flags_in k.own k.aliases w) (sym is ∙ c.if-not-differ.true)) (g.S.Sink.none _)
+    rw (clash_none k.same g.K.FlagKind.rule o c.args.item _ w (flags_in k.own k.aliases w) (sym is ∙ c.if-not-differ.true)) (g.S.Sink.none _)
 
 pub returns-clause-took : goal.returns-clause-took
 returns-clause-took g c =
@@ -21,6 +21,6 @@ returns-clause-took g c =
     let o = owner_in f c.args.one in
     let w = owner_in f c.args.other in
     let is : c.differ.result ≡ differ o w = c.differ.ensures ∙ ap (λ h. differ (owner_in h c.args.one) (owner_in h c.args.other)) c.source.ensures in
-    let told = clash_twins k.same c.args.rule o c.args.item _ (option_map k.plain c.flag.result) w (flags_in k.own k.aliases w) c.flag_count.result c.entry.result
+    let told = clash_twins k.same g.K.FlagKind.rule o c.args.item _ (option_map k.plain c.flag.result) w (flags_in k.own k.aliases w) c.flag_count.result c.entry.result
     (sym is ∙ c.if-not-differ.false) c.flag_count.ensures c.flag.ensures.value (c.entry.ensures f) in
     subst (λ l. g.S.Sink.after c.args.sink.now l c.offer_same.new.sink) told c.offer_same.ensures.took

@@ -12,4 +12,4 @@ invariant-loop-item g l =
     let f = k.form l.kind in
     let o = owner_numbered f l.number in
     let flags_of = flags_in k.own k.aliases in
-    Walked g.S.Sink (λ n x. blocks (λ _ w. clash_report k.same l.rule o n x w (flags_of w)) (suc l.number) (drop (suc l.number) (owners f))) 0 (flags_of o) l.initial.sink l.item l.sink
+    Walked g.S.Sink (λ n x. blocks (λ _ w. clash_report k.same g.K.FlagKind.rule o n x w (flags_of w)) (suc l.number) (drop (suc l.number) (owners f))) 0 (flags_of o) l.initial.sink l.item l.sink

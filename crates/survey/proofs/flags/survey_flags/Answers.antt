@@ -17,7 +17,7 @@ loop-number-preserved g c =
     let i = c.loop-number.number in
     let count : c.owner_count-number-end.result ≡ length (owners f) = c.owner_count-number-end.ensures ∙ ap (λ h. length (owners h)) c.source.ensures in
     let lt : i < length (owners f) = omega (arith, count) in
-    let told = λ (o : Owner). blocks (λ n x. blocks (λ _ w. clash_report k.same c.args.rule o n x w (flags_in k.own k.aliases w)) (suc i) (drop (suc i) (owners f))) 0 (flags_in k.own k.aliases o) in
+    let told = λ (o : Owner). blocks (λ n x. blocks (λ _ w. clash_report k.same g.K.FlagKind.rule o n x w (flags_in k.own k.aliases w)) (suc i) (drop (suc i) (owners f))) 0 (flags_in k.own k.aliases o) in
     let here = subst (λ o. g.S.Sink.after c.loop-number.sink (told o) c.offer_owner.new.sink) (sym (owners_at f i (owner_numbered f i) lt)) c.offer_owner.ensures.took in
     walk_step (owner_numbered f i) lt c.loop-number.invariant here
 
@@ -28,7 +28,7 @@ returns-in_err-offer_owner-clause-took g c =
     let i = c.loop-number.number in
     let count : c.owner_count-number-end.result ≡ length (owners f) = c.owner_count-number-end.ensures ∙ ap (λ h. length (owners h)) c.source.ensures in
     let lt : i < length (owners f) = omega (arith, count) in
-    let told = λ (o : Owner). blocks (λ n x. blocks (λ _ w. clash_report k.same c.args.rule o n x w (flags_in k.own k.aliases w)) (suc i) (drop (suc i) (owners f))) 0 (flags_in k.own k.aliases o) in
+    let told = λ (o : Owner). blocks (λ n x. blocks (λ _ w. clash_report k.same g.K.FlagKind.rule o n x w (flags_in k.own k.aliases w)) (suc i) (drop (suc i) (owners f))) 0 (flags_in k.own k.aliases o) in
     let here = subst (λ o. g.S.Sink.after c.loop-number.sink (told o) c.offer_owner.new.sink) (sym (owners_at f i (owner_numbered f i) lt)) c.offer_owner.ensures.took in
     walk_stop (owner_numbered f i) lt c.loop-number.invariant here c.in_err-offer_owner.ensures.goes
 

@@ -11,4 +11,4 @@ invariant-loop-number g l =
     let k = g.K.FlagKind in
     let os = owners (k.form l.kind) in
     let flags_of = flags_in k.own k.aliases in
-    Walked g.S.Sink (λ i o. blocks (λ n x. blocks (λ _ w. clash_report k.same l.rule o n x w (flags_of w)) (suc i) (drop (suc i) os)) 0 (flags_of o)) 0 os l.initial.sink l.number l.sink
+    Walked g.S.Sink (λ i o. blocks (λ n x. blocks (λ _ w. clash_report k.same g.K.FlagKind.rule o n x w (flags_of w)) (suc i) (drop (suc i) os)) 0 (flags_of o)) 0 os l.initial.sink l.number l.sink

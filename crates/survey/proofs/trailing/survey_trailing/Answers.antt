@@ -12,10 +12,10 @@ returns-clause-took g c =
     let high = c.count_positions.ensures.highest in
     each_by g.S.Sink.after _ _ (g.F.FormSource.form c.args.form.now) (trailing_tests c.count_positions.result.highest) trailing_rows
     (λ a. (
-    (ap (λ h. arg_set a.settings TrailingVarArg && (eqb (index_or_0 a.index) h && arg_set a.settings Last)) high, refl),
-    (
-      (ap (λ h. arg_set a.settings TrailingVarArg && (eqb (index_or_0 a.index) h && not (multiple a))) high, refl),
-      ((ap (λ h. arg_set a.settings TrailingVarArg && not (eqb (index_or_0 a.index) h)) high, refl), tt),
-    ),
+      (ap (λ h. arg_set a.settings TrailingVarArg && (eqb (index_or_0 a.index) h && arg_set a.settings Last)) high, refl),
+      (
+        (ap (λ h. arg_set a.settings TrailingVarArg && (eqb (index_or_0 a.index) h && not (multiple a))) high, refl),
+        ((ap (λ h. arg_set a.settings TrailingVarArg && not (eqb (index_or_0 a.index) h)) high, refl), tt),
+      ),
     ))
     c.survey_each.ensures.took

@@ -21,7 +21,7 @@ returns-then-not-takes_none-clause-took g c =
     rw (blocks_none h 0 (range_with_len 0 12) (λ k _. rw takes)) (g.S.Sink.none _)
 
 pub offer_bits-requires : goal.offer_bits-requires
-offer_bits-requires g c = omega (arith, and_le_r c.bits.result 3568)
+offer_bits-requires g c = omega (arith, and_le_r)
 
 pub returns-clause-took : goal.returns-clause-took
 returns-clause-took g c =
