@@ -60,8 +60,8 @@ fn push_arg(keys: &mut Keys, arg: &Held<ArgOf<Name>>, rows: &[ItemRow], place: u
         push_key(keys, KeyType::Position(index), place);
         return;
     }
-    push_some(keys, of.letter.map(|letter| KeyType::Short(letter)), place);
-    push_some(keys, of.long.map(|long| KeyType::Long(long)), place);
+    push_some(keys, of.letter.map(KeyType::Short), place);
+    push_some(keys, of.long.map(KeyType::Long), place);
     push_aliases(keys, rows, arg.mark, ItemList::LetterAliases, place);
     push_aliases(keys, rows, arg.mark, ItemList::LongAliases, place);
 }
