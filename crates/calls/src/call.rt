@@ -1,10 +1,26 @@
+ghost use Rattle.std.specs.Prelude.{◌≡◌};
+ghost use Rattle.form.specs.Bounds.{bounds};
+ghost use Rattle.calls.specs.Called.{range_of};
+
 use super::records::{Item, Record};
+use form::ValueRange;
 
 /// A range as it is given; where its least is above its most, it is refused when it is made.
 #[derive(Clone, Copy)]
 pub struct Bounds {
     pub least: u64,
     pub most: u64,
+}
+
+impl From<ValueRange> for Bounds {
+    ghost from_gives = { λ range given. range_of given ≡ bounds range };
+
+    fn from(range: ValueRange) -> Bounds {
+        Bounds {
+            least: range.min_values(),
+            most: range.max_values(),
+        }
+    }
 }
 
 /// What find seeks: a position, the code of a letter, or a long name.

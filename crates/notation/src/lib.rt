@@ -13,4 +13,4 @@ pub use lines::{Lines, split_line};
 pub use number::read_number;
 pub use range_text::read_range;
 pub use small::{read_letter, read_u8, read_u16};
-pub use words::{next_word, without_comment};
+pub use words::{is_blank, next_word, without_comment};

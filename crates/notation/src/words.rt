@@ -1,8 +1,8 @@
 ghost use Rattle.std.specs.Prelude.{◌≡◌, ◌+◌, ◌≤◌, length};
 ghost use Rattle.notation.specs.Words.{blank, word_of, behind, uncommented};
 
-// a space, a tab or a carriage return
-fn is_blank(byte: u8) -> bool
+/// Whether the byte is a space, a tab or a carriage return.
+pub fn is_blank(byte: u8) -> bool
     ensures { result ≡ blank byte }
 {
     byte == b' ' || byte == b'\t' || byte == b'\r'

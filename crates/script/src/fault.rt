@@ -33,27 +33,16 @@ pub enum FaultKind {
     NoKey,
 }
 
-/// What is wrong with a line, and where.
+impl FaultKind {
+    /// The fault at a word.
+    pub(crate) fn at(self, word: &[u8]) -> Fault<'_> {
+        Fault { kind: self, word }
+    }
+}
+
+/// What is wrong with a line, and the word that is wrong; empty where none is.
 #[derive(Clone, Copy)]
-pub struct Fault {
+pub struct Fault<'a> {
     pub kind: FaultKind,
-    /// how many bytes of the line follow the word that is wrong
-    pub left: usize,
-}
-
-impl Fault {
-    pub(crate) fn new(kind: FaultKind, rest: &[u8]) -> Fault {
-        Fault {
-            kind,
-            left: rest.len(),
-        }
-    }
-}
-
-/// The answer on a word, where `rest` follows that word.
-pub(crate) fn place<T: Copy>(answer: Result<T, FaultKind>, rest: &[u8]) -> Result<T, Fault> {
-    match answer {
-        Ok(value) => Ok(value),
-        Err(kind) => Err(Fault::new(kind, rest)),
-    }
+    pub word: &'a [u8],
 }

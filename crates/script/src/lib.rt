@@ -5,12 +5,10 @@ mod fault;
 mod fields;
 mod line;
 mod read;
-mod spelled;
 mod spelling;
 mod words;
 
 pub use fault::{Fault, FaultKind};
-pub use line::{ItemLine, KeyLine, Line, RecordLine};
+pub use line::Line;
 pub use read::read_line;
-pub use spelled::Spelled;
-pub use spelling::read_name;
+pub use spelling::{Spelled, read_name};

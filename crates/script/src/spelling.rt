@@ -1,41 +1,13 @@
 ghost use Rattle.std.specs.Prelude.{◌≡◌, ◌<◌, [], ◌∷◌, ◌++◌, length, take, if◌then◌else◌, Some, None};
 ghost use Rattle.std.specs.Option.{option_map};
-ghost use Rattle.script.specs.Held.{held};
+ghost use Rattle.form.specs.HeldBytes.{held_bytes};
 ghost use Rattle.script.specs.Spelling.{spelled, is_byte, byte_of, FirstByte};
 
-use super::spelled::Spelled;
+use form::Bytes;
 use notation::digit_value;
 
-impl Spelled {
-    /// The name of no bytes.
-    pub fn empty() -> Spelled
-        ensures { held result ≡ [] }
-    {
-        Spelled {
-            bytes: [0; 33],
-            len: 0,
-        }
-    }
-
-    /// The bytes that are held.
-    pub fn as_bytes(&self) -> &[u8]
-        ensures { result.now ≡ held self.now }
-    {
-        let len = self.len as usize;
-        &self.bytes[0..len]
-    }
-
-    // one byte more, as far as there is room
-    fn push(&mut self, byte: u8)
-        ensures { held self.new ≡ take 33 (held self.old ++ (byte ∷ [])) }
-    {
-        let len = self.len as usize;
-        if len < 33 {
-            self.bytes[len] = byte;
-            self.len += 1;
-        }
-    }
-}
+/// A name as a script gives it: its first 33 bytes. No name has more than 32, so a longer one is refused by these alone.
+pub type Spelled = Bytes<33>;
 
 // the byte that a backslash begins
 fn escaped(x: u8, high: u8, low: u8) -> Option<u8>
@@ -64,9 +36,9 @@ fn next_byte(text: &[u8]) -> Option<(u8, &[u8])>
 
 /// The name that a text spells; none where a backslash begins no byte.
 pub fn read_name(text: &[u8]) -> Option<Spelled>
-    ensures { option_map held result ≡ option_map (take 33) (spelled text.now) }
+    ensures { option_map held_bytes result ≡ option_map (take 33) (spelled text.now) }
 {
-    let mut name = Spelled::empty();
+    let mut name = Spelled::new();
     let mut rest = text;
     while !rest.is_empty() {
         let (byte, later) = next_byte(rest)?;
