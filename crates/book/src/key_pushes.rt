@@ -25,7 +25,8 @@ fn push_key(keys: &mut Keys, name: KeyType<Name>, place: usize)
     requires { length keys.old.list.items < 640 }
     ensures { map key_held keys.new.list.items ≡ map key_held keys.old.list.items ++ keyed_at place (key_named name) ∷ [] }
 {
-    keys.push(Key { name, place });
+    // there is room, so it is not refused
+    let _ = keys.push(Key { name, place });
 }
 
 // the same where there is a key
