@@ -25,7 +25,8 @@ fn push_key(keys: &mut Keys, name: KeyType<Name>, place: usize)
     requires { length keys.old.list.items < 640 }
     ensures { map key_held keys.new.list.items ≡ map key_held keys.old.list.items ++ keyed_at place (key_named name) ∷ [] }
 {
-    keys.push(Key { name, place });
+    // there is room, so it is not refused
+    let _ = keys.push(Key { name, place });
 }
 
 // the same where there is a key
@@ -60,8 +61,8 @@ fn push_arg(keys: &mut Keys, arg: &Held<ArgOf<Name>>, rows: &[ItemRow], place: u
         push_key(keys, KeyType::Position(index), place);
         return;
     }
-    push_some(keys, of.letter.map(|letter| KeyType::Short(letter)), place);
-    push_some(keys, of.long.map(|long| KeyType::Long(long)), place);
+    push_some(keys, of.letter.map(KeyType::Short), place);
+    push_some(keys, of.long.map(KeyType::Long), place);
     push_aliases(keys, rows, arg.mark, ItemList::LetterAliases, place);
     push_aliases(keys, rows, arg.mark, ItemList::LongAliases, place);
 }

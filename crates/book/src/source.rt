@@ -71,7 +71,7 @@ impl FormSource for BuiltBook {
 }
 
 /// Its keys are stored.
-#[tactic(auto, using(crate::specs::Books::built_keys, crate::specs::Books::key_shown, crate::specs::Books::keys_counted))]
+#[tactic(auto, using(crate::specs::Books::keys_counted))]
 impl Keyed for BuiltBook {
     fn key_count(&self) -> usize {
         self.keys.len()

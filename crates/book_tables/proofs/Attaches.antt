@@ -1,14 +1,13 @@
 -- Attaching, over the marked form.
-use Rattle.std.proofs.Common.{◌≡◌, ℕ, ◌<◌, ◌≤◌, Bool, true, false, List, [], ◌∷◌, ◌++◌, map, length, None, Some, Option, Ok, Err, sym, refl, ap, ◌∙◌, arith, le-leb}
+use Rattle.std.proofs.Common.{◌≡◌, ℕ, Bool, true, false, cond, leb, List, [], ◌∷◌, ◌++◌, map, length, None, Some, Option, Ok, Err, sym, refl, ap, ◌∙◌, arith, is_ok}
 use Rattle.std.specs.Option.{ok_or}
-use borrow.Author.Tests.{lt-leb}
 use Rattle.std.proofs.lemmas.List.{map_push}
 use Rattle.form.specs.Lists.{list_numbered}
 use Rattle.form.specs.declared.lists.ItemList.{ItemList}
 use Rattle.form.specs.declared.refusal.Refusal.{Refusal}
 use Rattle.form.specs.declared.refusal.Refusal.TheVariants.{RowsTaken}
 use Rattle.calls.specs.Marked.{ItemOf, Row, MarkedForm}
-use Rattle.calls.specs.Calls.{marked, takes, good_item, item_refusal, attach_answer, attached}
+use Rattle.calls.specs.Calls.{marked, takes, good_item, item_refusal, attach_answer, with_row, attached}
 use Rattle.book_tables.specs.declared.held.ItemRow.{ItemRow}
 use Rattle.book_tables.specs.Held.{row_held}
 use Rattle.book_tables.specs.Taken.{good_or, item_taken}
@@ -41,19 +40,20 @@ attach_bad m k n l x e has list fits is =
     let bad = bad_taken (good_item x) x e (item_refusal x) is in
     rw (bad.1, sym has, sym list, sym fits, bad.0) (refl, refl)
 
-pub attach_full : (m : MarkedForm) (k n : ℕ) (l : ItemList) (x y : ItemOf) → Attachable m k n l x y → 512 ≤ length m.rows
-    → (Err RowsTaken ≡ attach_answer m k n x) × (m ≡ attached m k n x)
-attach_full m k n l x y a no_room =
-    let good = good_taken (good_item x) x y (item_refusal x) a.taken in
-    rw (sym a.has, sym a.list, sym a.fits, good.0, le-leb _ _ no_room) (refl, refl)
-
-pub attach_taken : (m : MarkedForm) (rows : List Row) (k n : ℕ) (l : ItemList) (x y : ItemOf) → Attachable m k n l x y → length m.rows < 512
-    → rows ≡ m.rows ++ (record { owner = k; list = l; item = y } ∷ [])
-    → (Ok tt ≡ attach_answer m k n x)
+-- the row is added where there is room
+pub attach_ended : (m : MarkedForm) (rows : List Row) (k n : ℕ) (l : ItemList) (x y : ItemOf) → Attachable m k n l x y
+    → rows ≡ cond (leb 512 (length m.rows)) m.rows (m.rows ++ (record { owner = k; list = l; item = y } ∷ []))
+    → (cond (leb 512 (length m.rows)) (Err RowsTaken) (Ok tt) ≡ attach_answer m k n x)
     × (record { settings = m.settings; args = m.args; groups = m.groups; subcommands = m.subcommands; rows = rows; next = m.next } ≡ attached m k n x)
-attach_taken m rows k n l x y a room more =
+attach_ended m rows k n l x y a more =
     let good = good_taken (good_item x) x y (item_refusal x) a.taken in
-    rw (more, good.1, sym a.has, sym a.list, sym a.fits, good.0, lt-leb _ _ room) (refl, refl)
+    rw (more, good.1, sym a.has, sym a.list, sym a.fits, good.0) (refl, go (leb 512 (length m.rows)))
+  where
+    go : (t : Bool) → record { settings = m.settings; args = m.args; groups = m.groups; subcommands = m.subcommands; rows = cond t m.rows (m.rows ++ (record { owner = k; list = l; item = x } ∷ [])); next = m.next }
+        ≡ cond (is_ok (cond t (Err RowsTaken) (Ok (tt {0})))) (with_row m k (Some l) x) m
+    go true = refl
+    go false = refl
 
-pub rows_push : (rs more : List ItemRow) (r : ItemRow) → more ≡ rs ++ r ∷ [] → map row_held more ≡ map row_held rs ++ row_held r ∷ []
-rows_push rs more r is = ap (map row_held) is ∙ map_push row_held rs r
+pub rows_pushed : (t : Bool) (rs more : List ItemRow) (r : ItemRow) → more ≡ cond t rs (rs ++ r ∷ []) → map row_held more ≡ cond t (map row_held rs) (map row_held rs ++ row_held r ∷ [])
+rows_pushed true rs more r is = ap (map row_held) is
+rows_pushed false rs more r is = ap (map row_held) is ∙ map_push row_held rs r

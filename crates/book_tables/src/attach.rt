@@ -43,14 +43,11 @@ impl Tables {
             return Err(Refusal::WrongList);
         }
         let item = take_item(item)?;
-        if self.rows.is_full() {
-            return Err(Refusal::RowsTaken);
-        }
-        self.rows.push(ItemRow {
+        let row = ItemRow {
             owner: mark,
             list,
             item,
-        });
-        Ok(())
+        };
+        self.rows.push(row).map_err(|_| Refusal::RowsTaken)
     }
 }

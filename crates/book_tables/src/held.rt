@@ -7,7 +7,8 @@ pub struct Held<T> {
     pub of: T,
 }
 
-/// An item, held in place. Unlike that of `calls::Item`, its letter is one.
+/// An item, held in place. A type of its own beside `calls::Item`, whose letters are any 32 bits: as a parameter they would
+/// stand in every call.
 #[derive(Clone, Copy)]
 pub enum HeldItem {
     Name(Name),

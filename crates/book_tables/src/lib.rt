@@ -4,6 +4,7 @@
 mod alter;
 mod attach;
 mod enter;
+mod fault;
 mod held;
 mod lists_at;
 mod made;
@@ -16,6 +17,7 @@ mod table;
 mod tables;
 mod taken;
 
+pub use fault::TableFault;
 pub use held::{Held, HeldItem, ItemRow};
 pub use table::Table;
 pub use tables::Tables;

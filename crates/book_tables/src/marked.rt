@@ -27,7 +27,6 @@ impl<T, const N: usize> Table<Held<T>, N> {
 impl<T: Copy, const N: usize> Table<Held<T>, N> {
     /// Adds an entry at the end, under the next mark.
     pub(crate) fn enter(&mut self, next: &mut u16, of: T) -> Result<u16, Refusal>
-        requires { next.old ≤ 60001 }
         ensures answer { result ≡ mark_answer (nat_le N (length self.old.list.items)) next.old }
         ensures items { self.new.list.items ≡ entered_at result next.old of self.old.list.items }
         ensures next { next.new ≡ next_after result next.old }
@@ -39,7 +38,7 @@ impl<T: Copy, const N: usize> Table<Held<T>, N> {
         if mark > 60_000 {
             return Err(Refusal::MarksSpent);
         }
-        self.push(Held { mark, of });
+        self.put(Held { mark, of });
         *next = mark + 1;
         Ok(mark)
     }

@@ -1,7 +1,9 @@
-ghost use Rattle.std.specs.Prelude.{◌≡◌, ◌<◌, ◌≤◌, [], ◌∷◌, ◌++◌, length, vec_len, vec_capacity, nat_le, IfOk};
+ghost use Rattle.std.specs.Prelude.{◌≡◌, ◌<◌, ◌≤◌, [], ◌∷◌, ◌++◌, length, vec_len, vec_capacity, nat_le, Ok, Err, if◌then◌else◌, IfOk};
 ghost use Rattle.std.specs.Option.{option_map};
 ghost use Rattle.std.specs.List.{slice_get};
+ghost use Rattle.book_tables.specs.declared.fault.TableFault.TheVariants.{Full};
 
+use super::fault::TableFault;
 use std::alloc::{AllocError, Global};
 
 /// At most `N` things in a row, with room for all of them from the first on.
@@ -41,14 +43,14 @@ impl<T, const N: usize> Table<T, N> {
         self.list.len()
     }
 
-    pub fn is_full(&self) -> bool
+    pub(crate) fn is_full(&self) -> bool
         ensures { result ≡ nat_le N (length self.now.list.items) }
     {
         self.len() >= N
     }
 
-    /// One more, behind the others.
-    pub fn push(&mut self, item: T)
+    // one more, behind the others, where there is room
+    pub(crate) fn put(&mut self, item: T)
         requires { length self.old.list.items < N }
         ensures { self.new.list.items ≡ self.old.list.items ++ item ∷ [] }
     {
@@ -57,6 +59,18 @@ impl<T, const N: usize> Table<T, N> {
 }
 
 impl<T: Drop, const N: usize> Table<T, N> {
+    /// One more, behind the others.
+    pub fn push(&mut self, item: T) -> Result<(), TableFault>
+        ensures answer { result ≡ (if nat_le N (length self.old.list.items) then Err Full else Ok tt) }
+        ensures items { self.new.list.items ≡ (if nat_le N (length self.old.list.items) then self.old.list.items else self.old.list.items ++ item ∷ []) }
+    {
+        if self.is_full() {
+            return Err(TableFault::Full);
+        }
+        self.put(item);
+        Ok(())
+    }
+
     pub fn clear(&mut self)
         ensures { self.new.list.items ≡ [] }
     {

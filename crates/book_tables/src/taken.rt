@@ -21,10 +21,10 @@ pub(crate) fn take_name(bytes: &[u8]) -> Result<Name, Refusal>
 fn take_long(bytes: Option<&[u8]>) -> Result<Option<Name>, Refusal>
     ensures { within_ok (option_map name_bytes) result ≡ long_taken (option_map (λ x. x.now) bytes.entry) }
 {
-    bytes.map(|bytes| take_name(bytes)).transpose()
+    bytes.map(take_name).transpose()
 }
 
-// a letter, where there is a code
+// a letter, where there is a code; by its name alone, a function of another crate gets no proof
 fn take_letter(code: Option<u32>) -> Result<Option<char>, Refusal>
     ensures { result ≡ letter_taken code }
 {

@@ -23,7 +23,7 @@ fn call_open(mut book: OpenBook, call: Call<&[u8]>) -> (HeldBook, Answer)
     if let Call::Build = call {
         return (HeldBook::Built(book.build()), Answer::Done);
     }
-    let answer = change(&mut book, call).unwrap_or_else(|refusal| Answer::from(refusal));
+    let answer = change(&mut book, call).unwrap_or_else(Answer::from);
     (HeldBook::Open(book), answer)
 }
 
