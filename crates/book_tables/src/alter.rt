@@ -8,6 +8,7 @@ use super::taken::{take_arg, take_name, take_subcommand};
 use calls::{ArgRecord, SubcommandRecord};
 use form::{EntryKind, Refusal, ValueRange};
 
+// Each kind of entry has a record and a table of its own; one function over a trait of kinds would be no plainer than these lines.
 impl Tables {
     /// Replaces the record of the argument that bears the mark.
     pub fn alter_arg(

@@ -7,6 +7,7 @@ use super::call::{Bounds, Call, Sought};
 use super::records::{ArgRecord, Item, Record, SubcommandRecord};
 use std::convert::AsSlice;
 
+// Beside the views of `form`, whose records hold letters and settings that were checked.
 impl<N: AsSlice<u8>> ArgRecord<N, Bounds> {
     fn lent(&self) -> ArgRecord<&[u8], Bounds>
         ensures record { arg_called result ≡ arg_told N.items range_of self.now }

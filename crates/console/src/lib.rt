@@ -1,4 +1,6 @@
 //! What the desk says: each command as a function from its input to the text that it prints.
+// What is said of a breach depends on the form and on the style, which a `Display` is not given: these functions write.
+// Words for kinds, lists and rules stand here, in the layer that speaks, and are no `Display` of the types below.
 #![tactic(auto)]
 
 mod breaches;

@@ -23,6 +23,7 @@ pub enum ArgAction {
 
 impl ArgAction {
     /// The code, counting from 0 in the order above.
+    // by its name, and not `u8::from`, which would not say what the number is
     pub fn code(self) -> u8
         ensures { result ≡ action_code self }
     {

@@ -57,6 +57,7 @@ pub enum ItemList {
 
 impl ItemList {
     /// The number of the list, 1 to 15.
+    // by its name, and not `u8::from`, which would not say what the number is
     pub fn number(self) -> u8
         ensures { result ≡ list_number self }
     {

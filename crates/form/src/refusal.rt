@@ -67,6 +67,7 @@ pub enum Refusal {
 
 impl Refusal {
     /// The number of the refusal, 101 to 116.
+    // by its name, and not `u8::from`, which would not say what the number is
     pub fn number(self) -> u8
         ensures { result ≡ refusal_number self }
     {

@@ -12,6 +12,7 @@ use super::lists::ItemList;
 use super::views::{ArgView, GroupView, Key, SubcommandView};
 
 /// Something that means a form. Past an end it shows 0 or a blank record; no question is refused or alters the form.
+// Entries and items are asked for by place, and not by iterators over them: a breach tells the place.
 pub trait FormSource {
     // the form that the source means
     ghost form: { Self → Form };

@@ -42,6 +42,7 @@ impl<'a> ArgView<'a> {
     }
 }
 
+// `view` lends, as `as_ref` does: a `From` of a reference would be no plainer.
 impl<N: AsSlice<u8>> ArgOf<N> {
     /// The record as a source shows it, with the names as parts of this one.
     pub fn view(&self) -> ArgView<'_>

@@ -8,6 +8,7 @@ use form::{RangeFault, ValueRange};
 use std::ops::Bound;
 
 /// The range that a text writes in Rust's notation, or why it is refused; none if the text is no range.
+// An option around the result: no range at all is not one more fault of a range, and callers answer the two differently.
 pub fn read_range(text: &[u8]) -> Option<Result<ValueRange, RangeFault>>
     ensures { option_map bounded result ≡ range_written text.now }
 {
@@ -28,6 +29,7 @@ fn find_dots(text: &[u8]) -> Option<usize>
         .position(|pair| matches!(pair, [b'.', b'.']))
 }
 
+// the inner none is a start that is left out, the outer one a text that is no number
 fn read_start(text: &[u8]) -> Option<Option<u64>>
     ensures { result ≡ start_of text.now }
 {

@@ -53,6 +53,7 @@ pub enum Rule {
 
 impl Rule {
     /// The number of the rule.
+    // by its name, and not `u8::from`, which would not say what the number is
     pub fn number(self) -> u8
         ensures { result ≡ rule_number self }
     {

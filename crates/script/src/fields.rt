@@ -15,6 +15,7 @@ pub struct Fields {
     pub settings: Option<u16>,
     pub action: Option<ArgAction>,
     pub terminated: bool,
+    /// a range that is refused is still given
     pub range: Option<Result<ValueRange, RangeFault>>,
 }
 

@@ -40,6 +40,7 @@ pub fn read_name(text: &[u8]) -> Option<Spelled>
 {
     let mut name = Spelled::new();
     let mut rest = text;
+    // a byte takes one or four of the text: an iterator of its own for this one loop would be no plainer
     while !rest.is_empty() {
         let (byte, later) = next_byte(rest)?;
         name.push(byte);

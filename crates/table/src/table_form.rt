@@ -18,6 +18,7 @@ pub(crate) struct Tables<'t, 'a> {
 #[derive(Clone, Copy)]
 pub struct TableForm<'t, 'a> {
     pub(crate) tables: Tables<'t, 'a>,
+    // beside the form and not a `Result`: `new` gives a form for any tables, and `try_new` is the `Result`
     pub(crate) refused: bool,
     ghost fits: { within (form_of tables.settings.bits tables.args.now tables.groups.now tables.subcommands.now) ≡ true },
 }
