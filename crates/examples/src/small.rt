@@ -3,8 +3,7 @@ ghost use Rattle.examples.specs.SmallTypes.{SmallTypes};
 /// The examples of ranges and names hold; see specs/SmallTypes.antt.
 pub fn small_types()
     ensures { SmallTypes }
-{
-}
+{}
 
 #[cfg(test)]
 mod tests {
