@@ -1,5 +1,6 @@
 use super::calls_of::calls_of;
 use super::reader::CallLine;
+use super::unsaid::Unsaid;
 use console::{say_plain_breach, say_plain_report};
 use replay::{Answer, Layers, replay_under};
 use std::alloc::Global;
@@ -27,7 +28,7 @@ pub fn say_answers<W: Write>(
     out: &mut W,
     layers: Layers,
     lines: &[CallLine<'_>],
-) -> anyhow::Result<()> {
+) -> Result<(), Unsaid> {
     let calls = calls_of(heap, lines)?;
     let answers = replay_under(heap, layers, calls.as_slice())?;
     for answer in answers.as_slice() {

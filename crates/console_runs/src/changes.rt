@@ -1,3 +1,4 @@
+use super::unsaid::Unsaid;
 use book::BuiltBook;
 use console::kind_word;
 use rules::{Breach, Entry};
@@ -46,7 +47,7 @@ fn texts_of(
     heap: Global,
     book: &BuiltBook,
     breaches: &[Breach],
-) -> anyhow::Result<BTreeSet<String>> {
+) -> Result<BTreeSet<String>, Unsaid> {
     let mut texts = BTreeSet::new(heap);
     for breach in breaches {
         let _ = texts.insert(breach_text(heap, book, breach)?)?;
@@ -60,7 +61,7 @@ fn say_missing<W: Write>(
     word: &str,
     some: &BTreeSet<String>,
     others: &BTreeSet<String>,
-) -> anyhow::Result<()> {
+) -> Result<(), Unsaid> {
     for text in some.difference(others) {
         writeln!(out, "    {word}: {text}")?;
     }
@@ -74,7 +75,7 @@ pub(crate) fn say_changes<W: Write>(
     book: &BuiltBook,
     breaches: &[Breach],
     last: BTreeSet<String>,
-) -> anyhow::Result<BTreeSet<String>> {
+) -> Result<BTreeSet<String>, Unsaid> {
     let now = texts_of(heap, book, breaches)?;
     writeln!(out, "  since the last report:")?;
     say_missing(out, "came", &now, &last)?;

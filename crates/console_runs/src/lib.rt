@@ -7,9 +7,11 @@ mod changes;
 mod faults;
 mod reader;
 mod told;
+mod unsaid;
 mod words;
 
 pub use answers::say_answers;
 pub use faults::say_faults;
 pub use reader::{CallLine, FaultLine, ScriptText, Spot, read_script};
 pub use told::say_run;
+pub use unsaid::Unsaid;

@@ -1,5 +1,6 @@
 use super::changes::say_changes;
 use super::reader::CallLine;
+use super::unsaid::Unsaid;
 use super::words::refusal_words;
 use book::BuiltBook;
 use console::{Style, Text, say_breach, say_report};
@@ -72,7 +73,7 @@ pub fn say_run<W: Write>(
     out: &mut W,
     layers: Layers,
     lines: &[CallLine<'_>],
-) -> anyhow::Result<()> {
+) -> Result<(), Unsaid> {
     let mut held = HeldBook::new(heap)?;
     let mut last: BTreeSet<String> = BTreeSet::new(heap);
     for line in lines {

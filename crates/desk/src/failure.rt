@@ -1,3 +1,4 @@
+use console_runs::Unsaid;
 use std::alloc::AllocError;
 use std::{fmt, io};
 use thiserror::Error;
@@ -15,6 +16,8 @@ pub enum Failure {
     Io(#[from] io::Error),
     #[error("{0}")]
     Format(#[from] fmt::Error),
+    #[error("{0}")]
+    Unsaid(#[from] Unsaid),
     #[error("{0}")]
     OutOfMemory(#[from(alloc)] AllocError),
 }

@@ -1,5 +1,6 @@
 use super::failure::Failure;
 use console::Style;
+use replay::Layers;
 use std::alloc::Global;
 use std::env::Args;
 
@@ -7,6 +8,8 @@ use std::env::Args;
 #[derive(Drop)]
 pub struct Options {
     pub style: Style,
+    /// how many layers of standard flags lie over the form that is asked
+    pub layers: Layers,
     pub files: Vec<String>,
 }
 
@@ -20,23 +23,45 @@ impl Options {
     }
 }
 
+// the number of layers that is written
+fn layers_of(word: &str) -> Option<Layers> {
+    Some(match word {
+        "0" => Layers::None,
+        "1" => Layers::One,
+        "2" => Layers::Two,
+        "3" => Layers::Three,
+        _ => return None,
+    })
+}
+
 /// Reads the words that follow a command.
-pub fn read_options(heap: Global, words: Args) -> Result<Options, Failure> {
+pub fn read_options(heap: Global, mut words: Args) -> Result<Options, Failure> {
     let mut options = Options {
         style: Style::Words,
+        layers: Layers::None,
         files: Vec::new(heap),
     };
-    for word in words {
-        if word.as_str() == "--plain" {
-            options.style = Style::Plain;
-        } else if word.as_str().starts_with("--") {
-            let message = format!(in heap;
-                "there is no option `{word}`; `desk help` lists what there is"
-            )?;
-            return Err(Failure::Refused(message));
-        } else {
-            options.files.push(word)?;
+    while let Some(word) = words.next() {
+        match word.as_str() {
+            "--plain" => options.style = Style::Plain,
+            "--flags" => options.layers = expect_layers(words.next())?,
+            other => {
+                if other.starts_with("--") {
+                    let message = format!(in heap;
+                        "there is no option `{other}`; `desk help` lists what there is"
+                    )?;
+                    return Err(Failure::Refused(message));
+                }
+                options.files.push(word)?;
+            }
         }
     }
     Ok(options)
+}
+
+// what comes after `--flags`
+fn expect_layers(word: Option<String>) -> Result<Layers, Failure> {
+    word.and_then(|word| layers_of(word.as_str())).ok_or(Failure::Misused(
+        "after --flags comes a number of layers from 0 to 3",
+    ))
 }
