@@ -8,6 +8,7 @@ use super::taken::{take_arg, take_name, take_subcommand};
 use calls::{ArgRecord, SubcommandRecord};
 use form::{EntryKind, Refusal, ValueRange};
 
+#[tactic(auto, using(crate::proofs::Marks::marks_replaced))]
 impl Tables {
     /// Replaces the record of the argument that bears the mark.
     pub fn alter_arg(
