@@ -44,6 +44,7 @@ fn push_aliases(keys: &mut Keys, rows: &[ItemRow], mark: u16, list: ItemList, pl
     requires { length keys.old.list.items + length (items_of mark list (map row_held rows.now)) ≤ 640 }
     ensures { map key_held keys.new.list.items ≡ map key_held keys.old.list.items ++ map (keyed_at place) (map alias_key (items_of mark list (map row_held rows.now))) }
 {
+    // over a `filter` the invariant would speak of rows that are still to be skipped, and be no plainer
     for row in rows {
         if row.adds_to(mark, list) {
             push_key(keys, alias_key(row.item), place);

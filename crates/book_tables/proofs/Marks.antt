@@ -61,7 +61,3 @@ climbing_kept {X} low k (e ∷ es) top h =
     let P : Bool → Type 0 = λ t. climbing low (marks (cond (not t) (e ∷ rest) rest)) top ≡ true in
     let le : low ≤ e.mark + 1 = grind (arith, nat_tests) in
     elim (eqb e.mark k) as P [ true ↦ climbing_lower low (e.mark + 1) _ top le r | false ↦ rw a r ]
-
-pub marks_held : {X Y : Type 0} (f : X → Y) (es : List (Held X)) → marks es ≡ map (λ e. e.mark) (map (held f) es)
-marks_held f [] = refl
-marks_held f (e ∷ es) = ap (λ ms. e.mark ∷ ms) (marks_held f es)

@@ -9,6 +9,7 @@ use calls::{ArgRecord, SubcommandRecord};
 use form::{EntryKind, Refusal, ValueRange};
 
 // Each kind of entry has a record and a table of its own; one function over a trait of kinds would be no plainer than these lines.
+#[tactic(auto, using(crate::proofs::Marks::marks_replaced))]
 impl Tables {
     /// Replaces the record of the argument that bears the mark.
     pub fn alter_arg(

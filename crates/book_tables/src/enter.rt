@@ -9,6 +9,7 @@ use calls::{ArgRecord, SubcommandRecord};
 use form::{Refusal, ValueRange};
 
 // As with `alter_`: what the kinds share stands in `Table::enter`.
+#[tactic(auto, using(crate::proofs::Steps::next_few, crate::proofs::Steps::climbing_on, crate::proofs::Steps::climbing_entered))]
 impl Tables {
     /// Adds an argument at its table's end, and answers its mark.
     pub fn enter_arg(&mut self, details: ArgRecord<&[u8], ValueRange>) -> Result<u16, Refusal>

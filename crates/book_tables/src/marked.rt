@@ -1,4 +1,4 @@
-ghost use Rattle.std.specs.Prelude.{◌≡◌, ◌≤◌, map, length, ◌==◌, nat_le};
+ghost use Rattle.std.specs.Prelude.{◌≡◌, map, length, ◌==◌, nat_le};
 ghost use Rattle.std.specs.List.{list_any, slice_get};
 ghost use Rattle.book_tables.specs.Held.{marks};
 ghost use Rattle.book_tables.specs.Steps.{mark_answer, entered_at, next_after, with_under};

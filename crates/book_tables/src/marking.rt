@@ -7,7 +7,7 @@ ghost use Rattle.book_tables.specs.Tables.{tables_marked};
 use super::tables::Tables;
 use form::{EntryKind, Refusal};
 
-#[tactic(auto, using(crate::proofs::Marks::bears_held, crate::proofs::Marks::marks_held), unfolding(crate::specs::Tables::tables_marked))]
+#[tactic(auto, using(crate::proofs::Marks::bears_held, crate::specs::Fitted::marks_held), unfolding(crate::specs::Tables::tables_marked))]
 impl Tables {
     /// Whether an entry of the kind bears the mark.
     pub(crate) fn is_marked_as(&self, kind: EntryKind, mark: u16) -> bool

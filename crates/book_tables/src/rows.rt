@@ -10,7 +10,7 @@ use super::held::{HeldItem, ItemRow};
 use form::{ItemList, ItemSort};
 
 impl HeldItem {
-    /// The bytes of a name; empty for a letter.
+    /// The bytes of a name; empty for a letter, as a source shows what is not there.
     pub(crate) fn name(&self) -> &[u8]
         ensures { result.now ≡ named (item_held self.now) }
     {
@@ -20,7 +20,7 @@ impl HeldItem {
         }
     }
 
-    /// The letter; U+0000 for a name.
+    /// The letter; U+0000 for a name, as a source shows what is not there.
     pub(crate) fn letter(&self) -> char
         ensures { result ≡ lettered (item_held self.now) }
     {

@@ -1,10 +1,10 @@
-ghost use Rattle.std.specs.Prelude.{◌≡◌, ℕ, List};
-ghost use Rattle.std.specs.Option.{option_map};
+ghost use Rattle.std.specs.Prelude.{◌≡◌, ℕ};
 ghost use Rattle.calls.specs.Given.{arg_told, subcommand_given, subcommand_told, item_given, item_told};
 ghost use Rattle.calls.specs.Called.{range_of, arg_called, called, called_by, enter_by, enter_call, alter_by, alter_call, sought, sought_by};
 
 use super::call::{Bounds, Call, Sought};
 use super::records::{ArgRecord, Item, Record, SubcommandRecord};
+use form::lent;
 use std::convert::AsSlice;
 
 // Beside the views of `form`, whose records hold letters and settings that were checked.
@@ -15,7 +15,7 @@ impl<N: AsSlice<u8>> ArgRecord<N, Bounds> {
     {
         ArgRecord {
             id: self.id.as_slice(),
-            long: self.long.as_ref().map(|name| name.as_slice()),
+            long: lent(&self.long),
             letter: self.letter,
             index: self.index,
             settings: self.settings,
@@ -32,7 +32,7 @@ impl<N: AsSlice<u8>> SubcommandRecord<N> {
     {
         SubcommandRecord {
             name: self.name.as_slice(),
-            long: self.long.as_ref().map(|name| name.as_slice()),
+            long: lent(&self.long),
             letter: self.letter,
         }
     }

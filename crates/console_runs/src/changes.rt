@@ -48,6 +48,7 @@ fn texts_of(
     book: &BuiltBook,
     breaches: &[Breach],
 ) -> Result<BTreeSet<String>, Unsaid> {
+    // not `try_collect`: an entry of the set is made and put in with a `?` of each
     let mut texts = BTreeSet::new(heap);
     for breach in breaches {
         let _ = texts.insert(breach_text(heap, book, breach)?)?;

@@ -36,9 +36,8 @@ fn help(rt: &HostRuntime) -> Result<(), Failure> {
 }
 
 fn ranges(rt: &HostRuntime, options: &Options) -> Result<(), Failure> {
-    let Some(file) = options.only_file() else {
-        return Err(Failure::Misused("`desk ranges` takes one file, or - for standard input"));
-    };
+    let misused = Failure::Misused("`desk ranges` takes one file, or - for standard input");
+    let file = options.only_file().ok_or(misused)?;
     print_ranges(rt, file, options.style)
 }
 

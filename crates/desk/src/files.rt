@@ -10,10 +10,9 @@ pub fn read_file(rt: &HostRuntime, file: &str) -> Result<Vec<u8>, Failure> {
     } else {
         fs::read(rt, file)
     };
-    match read {
-        Ok(bytes) => Ok(bytes),
-        Err(error) => Err(Failure::Refused(unreadable(rt.alloc(), file, error)?)),
-    }
+    read.try_map_err(|error| -> Result<Failure, Failure> {
+        Ok(Failure::Refused(unreadable(rt.alloc(), file, error)?))
+    })
 }
 
 fn read_input(rt: &HostRuntime) -> io::Result<Vec<u8>> {

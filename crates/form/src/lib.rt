@@ -27,4 +27,4 @@ pub use names::letter;
 pub use range::ValueRange;
 pub use refusal::{LetterFault, NameFault, NoSuchCode, RangeFault, Refusal};
 pub use source::{FormSource, Keyed};
-pub use views::{ArgOf, ArgView, GroupView, Key, KeyType, SubcommandOf, SubcommandView};
+pub use views::{ArgOf, ArgView, GroupView, Key, KeyType, SubcommandOf, SubcommandView, lent};

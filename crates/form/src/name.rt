@@ -8,9 +8,12 @@ pub struct Bytes<const N: usize> {
     ghost short: { len ≤ N },
 }
 
+// the most bytes of a name
+pub(crate) const MOST: usize = 32;
+
 /// A name: 1 to 32 bytes.
 #[derive(Clone, Copy)]
 pub struct Name {
-    pub(crate) bytes: Bytes<32>,
+    pub(crate) bytes: Bytes<MOST>,
     ghost some: { 1 ≤ bytes.len },
 }

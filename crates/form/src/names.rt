@@ -5,7 +5,7 @@ ghost use Rattle.form.specs.Names.{name_of, letter_of};
 ghost use Rattle.form.specs.NameBytes.{name_bytes, named};
 ghost use Rattle.form.specs.SameName.{same_name, same_name_per, same_name_equiv};
 
-use super::name::{Bytes, Name};
+use super::name::{Bytes, MOST, Name};
 use super::refusal::{LetterFault, NameFault};
 use std::convert::AsSlice;
 
@@ -56,7 +56,7 @@ impl<const N: usize> AsSlice<u8> for Bytes<N> {
 
 impl Name {
     /// The most bytes of a name.
-    pub const MOST: usize = 32;
+    pub const MOST: usize = MOST;
 
     /// A name of the bytes; refused unless there are 1 to 32.
     pub fn new(bytes: &[u8]) -> Result<Name, NameFault>

@@ -61,8 +61,8 @@ impl<N: AsSlice<u8>> ArgOf<N> {
     }
 }
 
-// the bytes of a name, where there is one
-fn lent<N: AsSlice<u8>>(name: &Option<N>) -> Option<&[u8]>
+/// The bytes of a name, where there is one.
+pub fn lent<N: AsSlice<u8>>(name: &Option<N>) -> Option<&[u8]>
     ensures { option_map (λ x. x.now) result ≡ option_map N.items name.now }
 {
     name.as_ref().map(|name| name.as_slice())

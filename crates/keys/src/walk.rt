@@ -2,7 +2,7 @@ ghost use Rattle.std.specs.Prelude.{◌≡◌, ◌<◌, length, Some};
 ghost use Rattle.std.specs.List.{slice_get};
 ghost use Rattle.std.specs.Option.{option_map};
 ghost use Rattle.form.specs.Keys.{keys_of};
-ghost use Rattle.keys.specs.KeysAt.{long_names, own_names, names_at_place};
+ghost use Rattle.keys.specs.KeysAt.{own_names, names_at_place};
 ghost use Rattle.form.specs.Shown.{key_name, shown_key};
 
 use form::{FormSource, ItemList, Key, KeyType};

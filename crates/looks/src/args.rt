@@ -36,7 +36,7 @@ pub fn position(arg: &ArgView<'_>) -> Option<u16>
     if is_positional(arg) { arg.index } else { None }
 }
 
-/// Its index, none reading as 0.
+/// Its index, none reading as 0: the rules on positions take it so.
 pub fn index_or_0(arg: &ArgView<'_>) -> u16
     ensures { result ≡ words.index_or_0 (shown arg.now).index }
 {

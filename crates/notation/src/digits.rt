@@ -18,6 +18,7 @@ pub fn read_digits(text: &[u8], base: u64) -> Option<u64>
     if text.is_empty() {
         return None;
     }
+    // a `for` with `?`: `try_fold` would be no plainer
     let mut value = 0;
     for digit in text {
         value = with_digit(value, *digit, base)?;
@@ -37,6 +38,7 @@ fn with_digit(value: u64, digit: u8, base: u64) -> Option<u64>
 }
 
 /// What a digit is worth, 0 to 15; 16 for any other byte.
+// 16 and not an `Option`: it is below no base that is read, so one comparison refuses both
 pub fn digit_value(digit: u8) -> u64
     ensures { result ≡ digit_value digit }
 {

@@ -3,7 +3,7 @@ use Rattle.std.proofs.Common.{◌≡◌, ℕ, ◌+◌, ◌<◌, ◌≤◌, List,
 use Rattle.std.proofs.lemmas.List.{map_push, at_drop_more, at_drop_all}
 use Rattle.std.specs.Borrow.{Bor}
 use Rattle.form.specs.Model.{Form}
-use Rattle.calls.specs.Runs.{CallOf, World, answer, after, answers}
+use Rattle.calls.specs.Runs.{World, answer, after, answers}
 use Rattle.calls.specs.Runs as runs
 use Rattle.calls.specs.Called.{called}
 use Rattle.calls.specs.declared.call.Call.{Call as CallOn}

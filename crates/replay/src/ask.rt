@@ -46,10 +46,7 @@ pub(crate) fn ask<K: Keyed>(heap: Global, form: &K, call: Call<&[u8]>) -> Result
     match call {
         Call::Report(room) => ask_report(heap, form, room),
         Call::First => Ok(Answer::First(first(form))),
-        Call::Find(key) => Ok(match seek(form, key) {
-            Ok(place) => Answer::Place(place),
-            Err(refusal) => Answer::from(refusal),
-        }),
+        Call::Find(key) => Ok(seek(form, key).map_or_else(Answer::from, Answer::Place)),
         _ => Ok(Answer::NotNow),
     }
 }

@@ -10,8 +10,6 @@ use form::{FormSource, Keyed};
 use layers::StandardFlags;
 use std::alloc::{AllocError, Global};
 
-// Each number of layers is a type of its own: a trait with a generic method for what is asked under them would be no plainer
-// than the match.
 /// How many layers of standard flags lie over the book that is asked.
 #[derive(Clone, Copy)]
 pub enum Layers {
@@ -31,6 +29,7 @@ pub(crate) fn ask_under<K: Keyed>(
     ensures answer { IfOk result (λ a. said a ≡ asked_answer (under layers (K.FormSource.form form.now)) (called call.entry)) }
     ensures memory { OnErr result (asks_report (called call.entry) ≡ true) }
 {
+    // each number of layers is a type of its own: a trait with a generic method for what is asked under them would be no plainer
     match layers {
         Layers::None => ask(heap, form, call),
         Layers::One => ask(heap, &StandardFlags::new(form), call),

@@ -43,6 +43,7 @@ pub fn offer_same<R: Row, S: Sink>(
     if sought.is_none() {
         return sink.go_on();
     }
+    // over places: the row tells a breach by its place
     for place in from..to {
         offer_if(sought == row.at(place), row.tell(place), sink)?;
     }

@@ -1,4 +1,4 @@
-ghost use Rattle.std.specs.Prelude.{◌≡◌, Bool, true, false, not, List, [], ◌∷◌, ◌++◌, length, is_some, nat_le, refl};
+ghost use Rattle.std.specs.Prelude.{◌≡◌, Bool, true, false, List, [], ◌∷◌, ◌++◌, length, is_some, nat_le, refl};
 ghost use Rattle.std.proofs.Common.{◌∙◌};
 ghost use borrow.Author.Tests.{clash, leb-true};
 ghost use Rattle.rules.specs.declared.breach.Breach.{Breach};
@@ -100,7 +100,7 @@ impl Sink for First {
 }
 
 /// A sink that fills a list from the front, and leaves the rest of it.
-// A slice that shrinks as it is filled would be no plainer: callers ask for the count.
+// Room and count, and not a slice that shrinks: `after` speaks of the whole list, the front that is filled too.
 #[derive(Drop)]
 pub struct Fill<'a> {
     pub room: &'a mut [Breach],

@@ -32,6 +32,7 @@ pub(crate) fn survey_arguments<F: FormSource, S: Sink>(form: &F, sink: &mut S) -
             break 'walk;
         }
         for list in REFERENCES {
+            // over places: each breach tells its own
             for item in 0..form.name_count(list, place) {
                 if arg.offer_item_rules(list, item, sink).is_break() {
                     break 'walk;

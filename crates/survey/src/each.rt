@@ -32,6 +32,7 @@ pub(crate) fn survey_each<F: FormSource, R: ArgRules, S: Sink>(
     ensures took { S.Sink.after sink.old (blocks (λ p a. tests_told (argument p) (R.ArgRules.tests rules.now (bare (arg_record a)))) 0 (F.FormSource.form form.now).args) sink.new }
     ensures goes { result ≡ flow (S.Sink.full sink.new) }
 {
+    // over places: each breach tells its own
     for place in 0..form.arg_count() {
         rules.offer(place, &form.arg(place), sink)?;
     }

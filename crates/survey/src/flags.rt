@@ -90,6 +90,7 @@ fn offer_flag<K: FlagKind, S: Sink>(
 {
     let form = kind.source();
     let one = owner_at(form, number);
+    // over places: each breach tells its own
     for later in number + 1..owner_count(form) {
         offer_clashes(kind, one, item, owner_at(form, later), sink)?;
     }
@@ -103,6 +104,7 @@ fn offer_owner<K: FlagKind, S: Sink>(kind: &K, number: usize, sink: &mut S) -> C
     ensures goes { result ≡ flow (S.Sink.full sink.new) }
 {
     let owner = owner_at(kind.source(), number);
+    // over places: each breach tells its own
     for item in 0..flag_count(kind, owner) {
         offer_flag(kind, number, item, sink)?;
     }
@@ -114,6 +116,7 @@ fn survey_flags<K: FlagKind, S: Sink>(kind: &K, sink: &mut S) -> ControlFlow<()>
     ensures took { S.Sink.after sink.old (flags_report K.FlagKind.same (flags_in K.FlagKind.own K.FlagKind.aliases) K.FlagKind.rule (owners (K.FlagKind.form kind.now))) sink.new }
     ensures goes { result ≡ flow (S.Sink.full sink.new) }
 {
+    // over places: each breach tells its own
     for number in 0..owner_count(kind.source()) {
         offer_owner(kind, number, sink)?;
     }

@@ -43,6 +43,7 @@ pub(crate) fn survey_groups<F: FormSource, S: Sink>(form: &F, sink: &mut S) -> C
     ensures took { S.Sink.after sink.old (section_report (F.FormSource.form form.now) (rows.by_group 31 rows.group_rows)) sink.new }
     ensures goes { result ≡ flow (S.Sink.full sink.new) }
 {
+    // over places: each breach tells its own
     for place in 0..form.group_count() {
         offer_group_rules(form, place, sink)?;
     }
@@ -122,6 +123,7 @@ fn offer_missing<F: FormSource, K: Fn(&[u8]) -> bool, S: Sink>(
     ensures took { (ids : List Name) → ((x : Name) (known : Bool) → FnReturnsAt K.Fn is_known x known → known ≡ some (bytes_eq x) ids) → S.Sink.after sink.old (missing_told (F.FormSource.form form.now) place names.list ids names.rule) sink.new }
     ensures goes { result ≡ flow (S.Sink.full sink.new) }
 {
+    // over places: each breach tells its own
     for item in 0..form.name_count(names.list, place) {
         let missing = !is_known(form.name(names.list, place, item));
         let breach = of_item(names.rule, group_at(place), names.list, item);

@@ -19,6 +19,7 @@ pub(crate) fn count_positions<F: FormSource>(form: &F) -> Positions
 {
     let mut count = 0;
     let mut highest = 0;
+    // over places: each breach tells its own
     for place in 0..form.arg_count() {
         if let Some(index) = form.arg(place).index {
             count += 1;

@@ -40,6 +40,7 @@ impl<F: FormSource> ArgAt<'_, F> {
         ensures goes { result ≡ flow (S.Sink.full sink.new) }
     {
         let list = ItemList::Conflicts;
+        // over places: each breach tells its own
         for item in 0..self.form.name_count(list, self.place) {
             let itself = self.form.name(list, self.place, item) == self.arg.id;
             let breach = of_item(Rule::ConflictsWithItself, self.entry(), list, item);

@@ -20,6 +20,7 @@ pub(crate) fn survey_two_last<F: FormSource, S: Sink>(form: &F, sink: &mut S) ->
     ensures took { S.Sink.after sink.old (section_report (F.FormSource.form form.now) (by_argument 48 (later TwoLast two_last ∷ []))) sink.new }
     ensures goes { result ≡ flow (S.Sink.full sink.new) }
 {
+    // over places: each breach tells its own
     for place in 0..form.arg_count() {
         ArgAt::new(form, place).offer_later(PositionalLast, Rule::TwoLast, sink)?;
     }

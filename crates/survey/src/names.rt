@@ -122,6 +122,7 @@ fn offer_name<F: FormSource, S: Sink>(
     ensures took { S.Sink.after sink.old (name_told (F.FormSource.form form.now) later item) sink.new }
     ensures goes { result ≡ flow (S.Sink.full sink.new) }
 {
+    // over places: each breach tells its own
     for place in 0..=later {
         offer_taken(form, later, item, place, sink)?;
     }
@@ -134,6 +135,7 @@ fn offer_names<F: FormSource, S: Sink>(form: &F, later: usize, sink: &mut S) -> 
     ensures took { S.Sink.after sink.old (names_told (F.FormSource.form form.now) later) sink.new }
     ensures goes { result ≡ flow (S.Sink.full sink.new) }
 {
+    // over places: each breach tells its own
     for item in 0..name_count(form, later) {
         offer_name(form, later, item, sink)?;
     }
@@ -148,6 +150,7 @@ pub(crate) fn survey_subcommand_names<F: FormSource, S: Sink>(
     ensures took { S.Sink.after sink.old (section_report (F.FormSource.form form.now) by_subcommand_name) sink.new }
     ensures goes { result ≡ flow (S.Sink.full sink.new) }
 {
+    // over places: each breach tells its own
     for later in 0..form.subcommand_count() {
         offer_names(form, later, sink)?;
     }

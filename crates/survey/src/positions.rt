@@ -38,6 +38,7 @@ pub(crate) fn survey_positions<F: FormSource, S: Sink>(form: &F, sink: &mut S) -
     ensures took { S.Sink.after sink.old (section_report (F.FormSource.form form.now) rows.by_position) sink.new }
     ensures goes { result ≡ flow (S.Sink.full sink.new) }
 {
+    // from above, as what stands higher decides: a fold over pairs would be no plainer than the flag
     let mut settled_above = false;
     for position in (1..=count_positions(form).count).rev() {
         let Some(place) = first_at(form, position) else {

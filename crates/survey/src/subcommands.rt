@@ -15,6 +15,7 @@ pub(crate) fn survey_dashed_flags<F: FormSource, S: Sink>(form: &F, sink: &mut S
     ensures took { S.Sink.after sink.old (section_report (F.FormSource.form form.now) (by_subcommand LongFlagDash (λ s. dashed s.long))) sink.new }
     ensures goes { result ≡ flow (S.Sink.full sink.new) }
 {
+    // over places: each breach tells its own
     for place in 0..form.subcommand_count() {
         let broken = is_dashed(form.subcommand(place).long);
         offer_if(

@@ -110,6 +110,10 @@ impl<'t, 'a> TableForm<'t, 'a> {
     pub fn check(&self) -> Result<(), Refusal>
         ensures { result ≡ (if self.now.refused then Err refusal.BeyondLimits else Ok tt) }
     {
-        (!self.refused).then_some(()).ok_or(Refusal::BeyondLimits)
+        if self.refused {
+            Err(Refusal::BeyondLimits)
+        } else {
+            Ok(())
+        }
     }
 }

@@ -5,19 +5,8 @@ use Rattle.calls.specs.Calls.{argument, kept, replaced}
 use Rattle.calls.specs.Given.{arg_given}
 use Rattle.book_tables.specs.Held.{held, arg_held}
 use Rattle.book_tables.specs.Tables.{tables_marked}
-use Rattle.book_tables.proofs.Marks.{marks_replaced}
 use Rattle.book_tables.proofs.Alters.{table_replaced, mark_there, alter_taken}
 use Rattle.book_tables.proofs.tables.Tables.alter_arg.Goals as goal
-
-pub invariant_of-self : goal.invariant_of-self
-invariant_of-self c =
-    let s = c.args.self.now in
-    record {
-      last = s.last;
-      args_order = rw (c.replace.ensures, marks_replaced c.args.mark c.in_ok-of.of (vec_items s.args.list)) s.args_order;
-      groups_order = s.groups_order;
-      subcommands_order = s.subcommands_order;
-    }
 
 pub returns : goal.returns
 unfolding tables_marked

@@ -5,20 +5,9 @@ use Rattle.calls.specs.Marked.{MarkedForm}
 use Rattle.calls.specs.Calls.{group, replaced}
 use Rattle.book_tables.specs.Held.{held}
 use Rattle.book_tables.specs.Tables.{tables_marked}
-use Rattle.book_tables.proofs.Marks.{marks_replaced}
 use Rattle.book_tables.proofs.Gates.{group_gate}
 use Rattle.book_tables.proofs.Alters.{table_replaced, mark_there, alter_taken}
 use Rattle.book_tables.proofs.tables.Tables.alter_group.Goals as goal
-
-pub invariant_of-self : goal.invariant_of-self
-invariant_of-self c =
-    let s = c.args.self.now in
-    record {
-      last = s.last;
-      args_order = s.args_order;
-      groups_order = rw (c.replace.ensures, marks_replaced c.args.mark c.in_ok-of.of (vec_items s.groups.list)) s.groups_order;
-      subcommands_order = s.subcommands_order;
-    }
 
 pub returns : goal.returns
 unfolding tables_marked

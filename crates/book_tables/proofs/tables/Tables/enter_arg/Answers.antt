@@ -7,7 +7,7 @@ use Rattle.book_tables.specs.Held.{held, arg_held}
 use Rattle.book_tables.specs.Tables.{tables_marked}
 use Rattle.book_tables.specs.Steps.{mark_answer}
 use Rattle.book_tables.proofs.Gates.{stopped_at, entered_refused, enter_answered}
-use Rattle.book_tables.proofs.Steps.{next_few, climbing_on, climbing_entered, table_entered, arg_entered}
+use Rattle.book_tables.proofs.Steps.{table_entered, arg_entered}
 use Rattle.book_tables.proofs.tables.Tables.enter_arg.Goals as goal
 
 pub returns-in_err-of : goal.returns-in_err-of
@@ -17,16 +17,6 @@ returns-in_err-of c =
     let p = err_from_is_err_and c.from_residual.result c.from_residual.ensures.1 in
     let e = stopped_at r (kept (arg_given c.args.details)) (mark_answer (full m r) m.next) _ c.in_err-of.ensures in
     rw (p.1, p.2) (record { answer = e; after = entered_refused m r _ e })
-
-pub invariant_of-self : goal.invariant_of-self
-invariant_of-self c =
-    let s = c.args.self.now in
-    record {
-      last = rw c.enter.ensures.next (next_few _ s.next c.enter.result c.enter.ensures.answer s.last);
-      args_order = rw (c.enter.ensures.items, c.enter.ensures.next) (climbing_entered c.enter.result s.next c.in_ok-of.of (vec_items s.args.list) s.args_order);
-      groups_order = rw c.enter.ensures.next (climbing_on c.enter.result _ s.next s.groups_order);
-      subcommands_order = rw c.enter.ensures.next (climbing_on c.enter.result _ s.next s.subcommands_order);
-    }
 
 pub returns : goal.returns
 unfolding tables_marked

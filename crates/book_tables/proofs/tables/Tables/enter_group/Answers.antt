@@ -6,18 +6,8 @@ use Rattle.book_tables.specs.Held.{held}
 use Rattle.book_tables.specs.Tables.{tables_marked}
 use Rattle.book_tables.specs.Steps.{mark_answer}
 use Rattle.book_tables.proofs.Gates.{enter_answered, group_gate}
-use Rattle.book_tables.proofs.Steps.{next_few, climbing_on, climbing_entered, table_entered, group_entered}
+use Rattle.book_tables.proofs.Steps.{table_entered, group_entered}
 use Rattle.book_tables.proofs.tables.Tables.enter_group.Goals as goal
-
-pub invariant_of-self : goal.invariant_of-self
-invariant_of-self c =
-    let s = c.args.self.now in
-    record {
-      last = rw c.enter.ensures.next (next_few _ s.next c.enter.result c.enter.ensures.answer s.last);
-      args_order = rw c.enter.ensures.next (climbing_on c.enter.result _ s.next s.args_order);
-      groups_order = rw (c.enter.ensures.items, c.enter.ensures.next) (climbing_entered c.enter.result s.next c.in_ok-of.of (vec_items s.groups.list) s.groups_order);
-      subcommands_order = rw c.enter.ensures.next (climbing_on c.enter.result _ s.next s.subcommands_order);
-    }
 
 pub returns : goal.returns
 unfolding tables_marked
