@@ -50,9 +50,8 @@ fn print_ranges(rt: &HostRuntime, file: &str, style: Style) -> Result<(), Failur
 }
 
 fn replay(rt: &HostRuntime, options: &Options) -> Result<(), Failure> {
-    let Some(file) = options.only_file() else {
-        return Err(Failure::Misused("`desk replay` takes one script, or - for standard input"));
-    };
+    let misused = Failure::Misused("`desk replay` takes one script, or - for standard input");
+    let file = options.only_file().ok_or(misused)?;
     print_replay(rt, file, options.style, options.layers)
 }
 
