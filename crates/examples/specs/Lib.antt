@@ -1,2 +1,4 @@
 pub mod Forms
 pub mod SmallTypes
+pub mod Books
+pub mod All

@@ -1,10 +1,14 @@
 //! Examples that are proved, and examples that are run.
 #![tactic(auto)]
 
+mod all;
+mod books;
 mod forms;
 mod layered;
 mod small;
 
+pub use all::examples;
+pub use books::book_examples;
 pub use forms::form_examples;
 pub use layered::report_under_flags;
 pub use small::small_types;
