@@ -1,14 +1,14 @@
 ghost use Rattle.std.specs.Prelude.{◌≡◌, IfOk};
 ghost use Rattle.calls.specs.Marked.{blank};
 ghost use Rattle.calls.specs.Calls.{argument, group, subcommand, enter_answer, entered, alter_answer, altered, strike_answer, struck, attach_answer, attached, with_settings};
-ghost use Rattle.calls.specs.Given.{arg_given, subcommand_given, item_given};
+ghost use Rattle.calls.specs.Given.{arg_given, subcommand_given, given, item_given};
 ghost use Rattle.book_tables.specs.Rows.{mark_at};
 ghost use Rattle.book.specs.Books.{open_marked, built_marked};
 
 use super::key_pushes::push_all;
 use super::states::{BuiltBook, OpenBook};
 use book_tables::{Table, Tables};
-use calls::{ArgRecord, Item, SubcommandRecord};
+use calls::{ArgRecord, Item, Record, SubcommandRecord};
 use form::{EntryKind, Refusal, ValueRange};
 use std::alloc::{AllocError, Global};
 
@@ -21,6 +21,18 @@ impl OpenBook {
         let tables = Tables::new(heap)?;
         let keys = Table::new(heap)?;
         Ok(OpenBook { tables, keys })
+    }
+
+    /// Adds an entry at its table's end, and answers its mark.
+    pub fn enter(&mut self, details: Record<&[u8], ValueRange>) -> Result<u16, Refusal>
+        ensures answer { result ≡ enter_answer (open_marked self.old) (given details.entry) }
+        ensures after { open_marked self.new ≡ entered (open_marked self.old) (given details.entry) }
+    {
+        match details {
+            Record::Argument(details) => self.enter_arg(details),
+            Record::Group(id) => self.enter_group(id),
+            Record::Subcommand(details) => self.enter_subcommand(details),
+        }
     }
 
     /// Adds an argument at its table's end, and answers its mark.
@@ -45,6 +57,18 @@ impl OpenBook {
         ensures after { open_marked self.new ≡ entered (open_marked self.old) (subcommand (subcommand_given details.entry)) }
     {
         self.tables.enter_subcommand(details)
+    }
+
+    /// Replaces the record of the entry that bears the mark and is of that kind; it keeps mark, place and items.
+    pub fn alter(&mut self, mark: u16, details: Record<&[u8], ValueRange>) -> Result<(), Refusal>
+        ensures answer { result ≡ alter_answer (open_marked self.old) mark (given details.entry) }
+        ensures after { open_marked self.new ≡ altered (open_marked self.old) mark (given details.entry) }
+    {
+        match details {
+            Record::Argument(details) => self.alter_arg(mark, details),
+            Record::Group(id) => self.alter_group(mark, id),
+            Record::Subcommand(details) => self.alter_subcommand(mark, details),
+        }
     }
 
     /// Replaces the record of the argument that bears the mark; it keeps mark, place and items.

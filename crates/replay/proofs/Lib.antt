@@ -1,3 +1,4 @@
+pub mod Makes
 pub mod Unbuilt
 pub mod Runs
 pub mod Laws

@@ -14,22 +14,14 @@ fn enter(book: &mut OpenBook, entry: Record<&[u8], Bounds>) -> Result<u16, Refus
     ensures answer { mark_or result ≡ open_answer (open_marked book.old) (enter_call entry.entry) }
     ensures after { open_marked book.new ≡ open_after (open_marked book.old) (enter_call entry.entry) }
 {
-    match make(entry)? {
-        Record::Argument(arg) => book.enter_arg(arg),
-        Record::Group(id) => book.enter_group(id),
-        Record::Subcommand(subcommand) => book.enter_subcommand(subcommand),
-    }
+    book.enter(make(entry)?)
 }
 
 fn alter(book: &mut OpenBook, mark: u16, entry: Record<&[u8], Bounds>) -> Result<(), Refusal>
     ensures answer { done_or result ≡ open_answer (open_marked book.old) (alter_call mark entry.entry) }
     ensures after { open_marked book.new ≡ open_after (open_marked book.old) (alter_call mark entry.entry) }
 {
-    match make(entry)? {
-        Record::Argument(arg) => book.alter_arg(mark, arg),
-        Record::Group(id) => book.alter_group(mark, id),
-        Record::Subcommand(subcommand) => book.alter_subcommand(mark, subcommand),
-    }
+    book.alter(mark, make(entry)?)
 }
 
 /// What an open book answers to a call other than build.
