@@ -41,6 +41,7 @@ pub fn read_options(heap: Global, mut words: Args) -> Result<Options, Failure> {
         layers: Layers::None,
         files: Vec::new(heap),
     };
+    // not a `for`: an option takes the word behind it
     while let Some(word) = words.next() {
         match word.as_str() {
             "--plain" => options.style = Style::Plain,
