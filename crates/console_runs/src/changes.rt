@@ -78,6 +78,10 @@ pub(crate) fn say_changes<W: Write>(
     last: BTreeSet<String>,
 ) -> Result<BTreeSet<String>, Unsaid> {
     let now = texts_of(heap, book, breaches)?;
+    if now == last {
+        writeln!(out, "  nothing came or went since the last report")?;
+        return Ok(now);
+    }
     writeln!(out, "  since the last report:")?;
     say_missing(out, "came", &now, &last)?;
     say_missing(out, "went", &last, &now)?;
