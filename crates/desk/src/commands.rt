@@ -14,7 +14,7 @@ pub fn run(rt: &HostRuntime) -> Result<(), Failure> {
     let Some(command) = words.next() else {
         return help(rt);
     };
-    let options = read_options(rt.alloc(), words)?;
+    let options = read_options(rt.alloc(), command.as_str(), words)?;
     match command.as_str() {
         "ranges" => ranges(rt, &options),
         "replay" => replay(rt, &options),

@@ -34,8 +34,8 @@ fn layers_of(word: &str) -> Option<Layers> {
     })
 }
 
-/// Reads the words that follow a command.
-pub fn read_options(heap: Global, mut words: Args) -> Result<Options, Failure> {
+/// Reads the words that follow the command. Only `replay` asks a form under layers of standard flags.
+pub fn read_options(heap: Global, command: &str, mut words: Args) -> Result<Options, Failure> {
     let mut options = Options {
         style: Style::Words,
         layers: Layers::None,
@@ -45,7 +45,7 @@ pub fn read_options(heap: Global, mut words: Args) -> Result<Options, Failure> {
     while let Some(word) = words.next() {
         match word.as_str() {
             "--plain" => options.style = Style::Plain,
-            "--flags" => options.layers = expect_layers(words.next())?,
+            "--flags" if command == "replay" => options.layers = expect_layers(words.next())?,
             other => {
                 if other.starts_with("--") {
                     let message = format!(in heap;

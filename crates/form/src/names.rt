@@ -65,15 +65,19 @@ impl Name {
         if bytes.is_empty() {
             return Err(NameFault::Empty);
         }
-        let bytes = Bytes::copied(bytes).ok_or(NameFault::TooLong)?;
-        Ok(Name { bytes })
+        let held: Bytes<MOST> = Bytes::copied(bytes).ok_or(NameFault::TooLong)?;
+        let bytes = held.items;
+        Ok(Name {
+            bytes,
+            len: held.len as u8,
+        })
     }
 
     /// The bytes of the name.
     pub fn as_bytes(&self) -> &[u8]
         ensures { result.now ≡ name_bytes self.now }
     {
-        self.bytes.as_slice()
+        &self.bytes[0..usize::from(self.len)]
     }
 }
 

@@ -5,7 +5,6 @@ ghost use Rattle.rules.specs.declared.breach.Breach.{Breach};
 ghost use Rattle.sinks.specs.Flow.{flow};
 ghost use Rattle.sinks.specs.Alike.{between};
 
-use super::offers::offer_if;
 use super::sink::Sink;
 use rules::Breach;
 use std::ops::ControlFlow;
@@ -43,9 +42,11 @@ pub fn offer_same<R: Row, S: Sink>(
     if sought.is_none() {
         return sink.go_on();
     }
-    // over places: the row tells a breach by its place
+    // over places: the row tells a breach by its place, and only where there is one to tell
     for place in from..to {
-        offer_if(sought == row.at(place), row.tell(place), sink)?;
+        if sought == row.at(place) {
+            sink.offer(row.tell(place))?;
+        }
     }
     sink.go_on()
 }
