@@ -21,7 +21,7 @@ ONE_LINE = {
     "5a a requirement on a place and its record": r"requires.*(Shows|stands \{)",
     "5b a clause or invariant on a capacity": r"vec_capacity .*[≤≡]|[≤≡<] vec_capacity",
     "6 a buffer with a length, a pair of offsets, a table by number":
-        r"\[u8; 3[23]\],|\[UNUSED; |room: &|\bstart: usize|\bend: usize,|\bleft: usize|: \[&str; 52\]",
+        r"\[u8; (?:3[23]|MOST)\],|\[UNUSED; |room: &|\bstart: usize|\bend: usize,|\bleft: usize|: \[&str; 52\]",
     "7 a switch on what to run": r"\b(enum|const) (Part|PARTS|Known|Run|Layers)\b|match (part|layers) \{",
 }
 MANY_LINES = {
